@@ -1,0 +1,26 @@
+//! Whole-number vectors and raw meshes, as every layer above names them.
+#![tactic(auto)]
+
+mod lists;
+
+pub use lists::{Faces, Ints, Longs, Nodes};
+
+/// Memory ran out.
+#[derive(Clone, Copy, Debug, PartialEq, Eq)]
+pub struct NoMemory;
+
+/// A triple of whole numbers: a node, a direction, or the plane of an edge.
+#[derive(Clone, Copy, Default, Debug, PartialEq, Eq)]
+pub struct Vec3 {
+    pub x: i128,
+    pub y: i128,
+    pub z: i128,
+}
+
+/// A mesh as a file has it: nodes, and faces by the numbers of their nodes, counted from 1.
+/// Nothing is known of the numbers.
+#[derive(Drop)]
+pub struct RawMesh {
+    pub nodes: Nodes,
+    pub faces: Faces,
+}
