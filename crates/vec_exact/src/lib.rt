@@ -2,8 +2,10 @@
 #![tactic(auto)]
 
 mod lists;
+mod panels;
 
 pub use lists::{Faces, Ints, Longs, Nodes};
+pub use panels::Panel;
 
 /// Memory ran out.
 #[derive(Clone, Copy, Debug, PartialEq, Eq)]
