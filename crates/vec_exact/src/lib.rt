@@ -2,8 +2,16 @@
 #![tactic(auto)]
 
 mod lists;
+mod rounding;
+mod steps;
+#[cfg(test)]
+mod tests;
+mod vectors;
 
 pub use lists::{Faces, Ints, Longs, Nodes};
+pub use rounding::{isqrt, round_div};
+pub use steps::Steps;
+pub use vectors::{Sign, cross, det, dot, side};
 
 /// Memory ran out.
 #[derive(Clone, Copy, Debug, PartialEq, Eq)]
