@@ -1,0 +1,10 @@
+pub mod Whole
+pub mod Ring
+pub mod Signs
+pub mod Bounds
+pub mod Rounded
+pub mod Terms
+pub mod Identities
+pub mod Lengths
+pub mod Cycles
+pub mod Accepted
