@@ -1,0 +1,28 @@
+-- A folder as a value: the bytes of each name that is there.
+use Rattle.std.specs.Prelude.{◌≡◌, ◌⊎◌, ℕ, List, take, Option, Some, None}
+use Rattle.std.specs.Coded.{Coded, coded_list, coded_ℕ}
+use Rattle.std.specs.Ordering.{nat_cmp}
+use Rattle.std.specs.Cmp.Lexicographic.{slice_cmp}
+use Rattle.std.specs.FinMap.{FinMap, get, insert, code}
+
+-- a finite map from names to bytes, where names are in the order of their bytes
+abbrev pub Folder : Type 0
+Folder = FinMap (slice_cmp nat_cmp) (List ℕ)
+
+-- by which a proof tells folders apart
+abbrev pub folder_code : Coded Folder
+folder_code = code (coded_list coded_ℕ) (coded_list coded_ℕ)
+
+-- the bytes of a name, if it is there
+abbrev pub file_at : Folder → List ℕ → Option (List ℕ)
+file_at m name = get m name
+
+-- the folder in which the name holds these bytes, and all else stands
+abbrev pub with_file : Folder → List ℕ → List ℕ → Folder
+with_file m name bytes = insert m name bytes
+
+-- After a replacement that was refused: all is as it was, or the name holds a prefix of the bytes.
+-- What isn't told stays untold.
+abbrev pub IsPartlyReplaced : Option Folder → List ℕ → List ℕ → Option Folder → Type 0
+IsPartlyReplaced None name bytes new = new ≡ None
+IsPartlyReplaced (Some m) name bytes new = (new ≡ Some m) ⊎ ((n : ℕ) × (new ≡ Some (with_file m name (take n bytes))))

@@ -1,0 +1,6 @@
+pub mod Causes
+pub mod Folder
+pub mod Held
+pub mod Host
+pub mod Memory
+pub mod Store

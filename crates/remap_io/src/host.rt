@@ -1,0 +1,184 @@
+// The real files and writers, of whose content nothing is told.
+ghost use Rattle.std.specs.Prelude.{◌≡◌, length, OnOk, OnErr, IsErrOf, IsOkUnless};
+ghost use Rattle.remap_io.specs.Causes.{raised, IsLater};
+ghost use Rattle.remap_io.specs.Host.{asked_for};
+
+use crate::files::{FileErr, Files, PutErr};
+use crate::sink::Sink;
+use std::io::{ErrorKind, Read, Seek, SeekFrom, Write};
+use std::marker::Model;
+use std::{fs, io};
+
+/// The files of a runtime. One count rises at each name that isn't found, one at each other error
+/// of `size` or `read_at`, a short read included, and one at each error of `replace`.
+#[derive(Drop)]
+pub struct HostFiles<R: std::rt::Files> {
+    rt: R,
+    faults: u64,
+    write_faults: u64,
+    misses: u64,
+    taken: u64,
+}
+
+impl<R: std::rt::Files> Model for HostFiles<R> {
+    ghost use Rattle.remap_io.specs.Host.{HostCounts};
+
+    ghost Value = { HostCounts };
+
+    ghost view = { λ s. record { faults = s.faults; write_faults = s.write_faults; misses = s.misses; taken = s.taken } };
+}
+
+impl<R: std::rt::Files> HostFiles<R> {
+    /// The files of this runtime, with all counts 0.
+    pub fn new(rt: R) -> HostFiles<R>
+        ensures { result ≡ record { faults = 0; write_faults = 0; misses = 0; taken = 0 } }
+    {
+        HostFiles {
+            rt,
+            faults: 0,
+            write_faults: 0,
+            misses: 0,
+            taken: 0,
+        }
+    }
+
+    // Counts a miss, or a fault.
+    fn missed_or_failed(&mut self, error: io::Error) -> FileErr
+        ensures absent { result ≡ FileErr.Absent → self.new ≡ record self.old { misses = raised self.old.misses 1 } }
+        ensures failed { result ≡ FileErr.Failed → self.new ≡ record self.old { faults = raised self.old.faults 1 } }
+        ensures not_memory { ¬ (result ≡ FileErr.NoMemory) }
+        ensures later_faults { IsLater self.old.faults self.new.faults }
+        ensures later_misses { IsLater self.old.misses self.new.misses }
+    {
+        if error.kind() == ErrorKind::NotFound {
+            self.misses = self.misses.saturating_add(1);
+            FileErr::Absent
+        } else {
+            self.faults = self.faults.saturating_add(1);
+            FileErr::Failed
+        }
+    }
+}
+
+fn read_range<R: std::rt::Files>(rt: &R, name: &str, at: u64, buf: &mut [u8]) -> io::Result<()> {
+    let mut file = fs::open(rt, name)?;
+    file.seek(SeekFrom::Start(at))?;
+    file.read_exact(buf)
+}
+
+impl<R: std::rt::Files> Files for HostFiles<R> {
+    ghost use Rattle.std.specs.Prelude.{None};
+
+    ghost folder = { λ _. None };
+
+    ghost faults = { λ s. s.faults };
+
+    ghost write_faults = { λ s. s.write_faults };
+
+    ghost misses = { λ s. s.misses };
+
+    ghost taken = { λ s. s.taken };
+
+    fn size(&mut self, name: &str) -> Result<u64, FileErr>
+        ensures ok { OnOk result (self.new ≡ self.old) }
+        ensures absent { IsErrOf result FileErr.Absent → self.new ≡ record self.old { misses = raised self.old.misses 1 } }
+        ensures failed { IsErrOf result FileErr.Failed → self.new ≡ record self.old { faults = raised self.old.faults 1 } }
+        ensures no_other { ¬ IsErrOf result FileErr.NoMemory }
+        ensures later_faults { IsLater self.old.faults self.new.faults }
+        ensures later_misses { IsLater self.old.misses self.new.misses }
+    {
+        match self.rt.metadata(name) {
+            Ok(metadata) => Ok(metadata.len()),
+            Err(error) => Err(self.missed_or_failed(error)),
+        }
+    }
+
+    fn read_at(&mut self, name: &str, at: u64, buf: &mut [u8]) -> Result<(), FileErr>
+        ensures ok { OnOk result (self.new ≡ asked_for self.old (length buf.old)) }
+        ensures absent { IsErrOf result FileErr.Absent → self.new ≡ record (asked_for self.old (length buf.old)) { misses = raised self.old.misses 1 } }
+        ensures failed { IsErrOf result FileErr.Failed → self.new ≡ record (asked_for self.old (length buf.old)) { faults = raised self.old.faults 1 } }
+        ensures no_other { ¬ IsErrOf result FileErr.NoMemory }
+        ensures later_faults { IsLater self.old.faults self.new.faults }
+        ensures later_misses { IsLater self.old.misses self.new.misses }
+        ensures later_taken { IsLater self.old.taken self.new.taken }
+    {
+        self.taken = self.taken.saturating_add(buf.len() as u64);
+        match read_range(&self.rt, name, at, buf) {
+            Ok(()) => Ok(()),
+            Err(error) => Err(self.missed_or_failed(error)),
+        }
+    }
+
+    fn replace(&mut self, name: &str, bytes: &[u8]) -> Result<(), PutErr>
+        ensures ok { OnOk result (self.new ≡ self.old) }
+        ensures failed { OnErr result (self.new ≡ record self.old { write_faults = raised self.old.write_faults 1 }) }
+        ensures only_failed { IsOkUnless result PutErr.Failed }
+        ensures later_write_faults { IsLater self.old.write_faults self.new.write_faults }
+    {
+        match fs::write(&self.rt, name, bytes) {
+            Ok(()) => Ok(()),
+            Err(_) => {
+                self.write_faults = self.write_faults.saturating_add(1);
+                Err(PutErr::Failed)
+            }
+        }
+    }
+}
+
+/// Any writer of std. Each `put` writes all bytes and flushes, and an error of either is a fault.
+#[derive(Drop)]
+pub struct HostSink<W: Write> {
+    writer: W,
+    faults: u64,
+}
+
+impl<W: Write> Model for HostSink<W> {
+    ghost use Rattle.std.specs.Prelude.{ℕ};
+
+    // How many puts failed.
+    ghost Value = { ℕ };
+
+    ghost view = { λ s. s.faults };
+}
+
+impl<W: Write> HostSink<W> {
+    /// The sink over this writer, with no fault yet.
+    pub fn new(w: W) -> HostSink<W>
+        ensures { result ≡ 0 }
+    {
+        HostSink {
+            writer: w,
+            faults: 0,
+        }
+    }
+}
+
+fn write_out<W: Write>(writer: &mut W, bytes: &[u8]) -> io::Result<()> {
+    writer.write_all(bytes)?;
+    writer.flush()
+}
+
+impl<W: Write> Sink for HostSink<W> {
+    ghost use Rattle.std.specs.Prelude.{None};
+
+    ghost contents = { λ _. None };
+
+    ghost faults = { λ s. s };
+
+    ghost refusals = { λ _. 0 };
+
+    fn put(&mut self, bytes: &[u8]) -> Result<(), PutErr>
+        ensures ok { OnOk result (self.new ≡ self.old) }
+        ensures failed { OnErr result (self.new ≡ raised self.old 1) }
+        ensures only_failed { IsOkUnless result PutErr.Failed }
+        ensures later_faults { IsLater self.old self.new }
+    {
+        match write_out(&mut self.writer, bytes) {
+            Ok(()) => Ok(()),
+            Err(_) => {
+                self.faults = self.faults.saturating_add(1);
+                Err(PutErr::Failed)
+            }
+        }
+    }
+}
