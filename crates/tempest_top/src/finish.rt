@@ -1,0 +1,51 @@
+// How a command ends.
+ghost use Rattle.std.specs.Prelude.{◌≡◌, ◌≢◌, ◌⊎◌};
+ghost use Rattle.remap_io.specs.Causes.{Rose};
+ghost use Rattle.remap_io.specs.Held.{Gains};
+ghost use Rattle.tempest_top.specs.Outcome.{Outcome, Output, written};
+ghost use Rattle.tempest_top.specs.Promises.{IsAnswer, FolderAfterRefusal, TextAfterRefusal, PutsLine};
+
+use crate::Status;
+use crate::lines::put_line;
+use remap_io::{Files, PutErr, Sink};
+
+/// Writes the output file, and then puts the text. All that takes memory was made before.
+pub fn write_then_text<F: Files, O: Sink, E: Sink>(
+    files: &mut F,
+    out: &mut O,
+    err: &mut E,
+    name: &str,
+    bytes: &[u8],
+    text: &[u8],
+) -> Status
+    ensures status { IsAnswer (written (record { name = name.now; bytes = bytes.now }) text.now (F.folder files.old)) (Rose (F.faults files.old) (F.faults files.new))
+        (Rose (F.write_faults files.old) (F.write_faults files.new) ⊎ Rose (O.faults out.old) (O.faults out.new)) result }
+    ensures only { (result ≡ Status.Done) ⊎ ((result ≡ Status.WriteFault) ⊎ (result ≡ Status.NoMemory)) }
+
+    ensures done_folder { result ≡ Status.Done → F.folder files.new ≡ (written (record { name = name.now; bytes = bytes.now }) text.now (F.folder files.old)).folder }
+    ensures done_text { result ≡ Status.Done → Gains (O.contents out.old) (O.contents out.new) text.now }
+    ensures done_line { result ≡ Status.Done → err.new ≡ err.old }
+{
+    match files.replace(name, bytes) {
+        Ok(()) => {}
+        Err(PutErr::Failed) => {
+            put_line(err, &["write fault on ", name]);
+            return Status::WriteFault;
+        }
+        Err(PutErr::NoMemory) => {
+            put_line(err, &["no memory"]);
+            return Status::NoMemory;
+        }
+    }
+    match out.put(text) {
+        Ok(()) => Status::Done,
+        Err(PutErr::Failed) => {
+            put_line(err, &["write fault on output"]);
+            Status::WriteFault
+        }
+        Err(PutErr::NoMemory) => {
+            put_line(err, &["no memory"]);
+            Status::NoMemory
+        }
+    }
+}
