@@ -1,0 +1,5 @@
+pub mod Table
+pub mod Items
+pub mod Words
+pub mod Views
+pub mod Steps
