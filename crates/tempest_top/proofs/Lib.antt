@@ -1,1 +1,2 @@
 mod Gaining
+mod Written

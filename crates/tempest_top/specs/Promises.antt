@@ -1,5 +1,5 @@
 -- What the program promises of a call, against the outcome of its words. In each word the last argument is the status of the call.
-use Rattle.std.specs.Prelude.{◌≡◌, ◌⊎◌, ℕ, List, ◌++◌, codes, Option, Some, None, ⊤}
+use Rattle.std.specs.Prelude.{◌≡◌, ◌≢◌, ◌⊎◌, ℕ, List, ◌++◌, codes, Option, Some, None, ⊤}
 use Rattle.remap_io.specs.Folder.{Folder, IsPartlyReplaced}
 use Rattle.remap_io.specs.Held.{Gains, GainsPart}
 use Rattle.tempest_top.specs.declared.status.Status.{Status}
@@ -46,3 +46,16 @@ IsLine o line files out status = line ≡ o.line
 -- The line of the status went out, or a prefix of it and then a cause is counted.
 abbrev pub PutsLine : Outcome → Option (List ℕ) → Option (List ℕ) → Type 0 → Type 0 → Type 0 → Status → Type 0
 PutsLine o old new files out cause status = (line : List ℕ) × IsLine o line files out status × GainsLine old new line cause
+
+-- A call keeps what is promised, where the outcome of its words is o.
+pub record Keeps (o : Outcome) (old_folder new_folder : Option Folder) (reads writes outs : Type 0) (old_out new_out old_err new_err : Option (List ℕ)) (cause : Type 0) (status : Status) : Type 0 where
+  pub answer : IsAnswer o reads (writes ⊎ outs) status
+  pub done_folder : status ≡ Done → new_folder ≡ o.folder
+  pub done_text : status ≡ Done → Gains old_out new_out o.text
+  pub refused_folder : status ≢ Done → FolderAfterRefusal o old_folder new_folder status
+  pub refused_text : status ≢ Done → TextAfterRefusal o old_out new_out status
+  -- where something of the text went out, the output file has all its new bytes
+  pub text_after_file : (new_out ≡ old_out) ⊎ (new_folder ≡ o.folder)
+  -- and so it has after a write fault that isn't one of the file
+  pub fault_after_file : status ≡ WriteFault → writes ⊎ (new_folder ≡ o.folder)
+  pub refused_line : status ≢ Done → PutsLine o old_err new_err writes outs cause status

@@ -1,9 +1,8 @@
 // How a command ends.
 ghost use Rattle.std.specs.Prelude.{◌≡◌, ◌≢◌, ◌⊎◌};
 ghost use Rattle.remap_io.specs.Causes.{Rose};
-ghost use Rattle.remap_io.specs.Held.{Gains};
 ghost use Rattle.tempest_top.specs.Outcome.{Outcome, Output, written};
-ghost use Rattle.tempest_top.specs.Promises.{IsAnswer, FolderAfterRefusal, TextAfterRefusal, PutsLine};
+ghost use Rattle.tempest_top.specs.Promises.{Keeps};
 
 use crate::Status;
 use crate::lines::put_line;
@@ -18,13 +17,13 @@ pub fn write_then_text<F: Files, O: Sink, E: Sink>(
     bytes: &[u8],
     text: &[u8],
 ) -> Status
-    ensures status { IsAnswer (written (record { name = name.now; bytes = bytes.now }) text.now (F.folder files.old)) (Rose (F.faults files.old) (F.faults files.new))
-        (Rose (F.write_faults files.old) (F.write_faults files.new) ⊎ Rose (O.faults out.old) (O.faults out.new)) result }
+    ensures kept { Keeps (written (record { name = name.now; bytes = bytes.now }) text.now (F.folder files.old)) (F.folder files.old) (F.folder files.new)
+        (Rose (F.faults files.old) (F.faults files.new)) (Rose (F.write_faults files.old) (F.write_faults files.new)) (Rose (O.faults out.old) (O.faults out.new))
+        (O.contents out.old) (O.contents out.new) (E.contents err.old) (E.contents err.new)
+        (Rose (E.faults err.old) (E.faults err.new) ⊎ Rose (E.refusals err.old) (E.refusals err.new)) result }
+    ensures no_line { result ≡ Status.Done → err.new ≡ err.old }
+    ensures no_reads { F.taken files.new ≡ F.taken files.old }
     ensures only { (result ≡ Status.Done) ⊎ ((result ≡ Status.WriteFault) ⊎ (result ≡ Status.NoMemory)) }
-
-    ensures done_folder { result ≡ Status.Done → F.folder files.new ≡ (written (record { name = name.now; bytes = bytes.now }) text.now (F.folder files.old)).folder }
-    ensures done_text { result ≡ Status.Done → Gains (O.contents out.old) (O.contents out.new) text.now }
-    ensures done_line { result ≡ Status.Done → err.new ≡ err.old }
 {
     match files.replace(name, bytes) {
         Ok(()) => {}
