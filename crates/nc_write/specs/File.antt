@@ -49,6 +49,10 @@ lens_of doc = map (λ d. d.len) doc.dims
 abbrev pub is_record : NcDoc → DocVar → Bool
 is_record doc v = has_records (lens_of doc) v.dims
 
+-- how many pieces the values stand in
+abbrev pub pieces_of : NcDoc → DocVar → ℕ
+pieces_of doc v = if is_record doc v then doc.records else 1
+
 -- exactly one record variable: its records are not padded
 unfoldable pub has_several : NcDoc → Bool
 has_several doc = not (count_by (is_record doc) doc.vars == 1)
