@@ -6,7 +6,7 @@ ghost use Rattle.nc_write.specs.Kinds.{size_of, type_number};
 ghost use Rattle.nc_write.specs.Extents.{rounded, product_of, piece_count};
 ghost use Rattle.nc_write.specs.File.{lens_of, is_record, kind_of, has_several, piece_len, fixed_len, record_len, first_len, fixed_total, step_of, version_of, is_long};
 
-use crate::{DocDim, DocVar, NcDoc, NcKind, Values};
+use crate::{DocDim, DocVar, NcDoc, Values};
 
 const STOP: u64 = 9_223_372_036_854_775_808;
 
@@ -30,43 +30,26 @@ pub fn rounded(n: u64) -> u64
     n + (4 - n % 4) % 4
 }
 
-pub fn kind_of(values: &Values) -> NcKind
-    ensures { result ≡ kind_of values.now }
+/// The number of the type that values are written in.
+pub fn type_number(values: &Values) -> u32
+    ensures { result ≡ type_number (kind_of values.now) }
 {
     match values {
-        Values::Byte(_) => NcKind::Byte,
-        Values::Int(_) => NcKind::Int,
-        Values::Long(_) => NcKind::Int64,
+        Values::Byte(_) => 1,
+        Values::Int(_) => 4,
+        Values::Long(_) => 10,
     }
 }
 
-pub fn type_number(kind: NcKind) -> u32
-    ensures { result ≡ type_number kind }
-{
-    match kind {
-        NcKind::Byte => 1,
-        NcKind::Char => 2,
-        NcKind::Short => 3,
-        NcKind::Int => 4,
-        NcKind::Float => 5,
-        NcKind::Double => 6,
-        NcKind::UByte => 7,
-        NcKind::UShort => 8,
-        NcKind::UInt => 9,
-        NcKind::Int64 => 10,
-        NcKind::UInt64 => 11,
-    }
-}
-
-fn size_of(kind: NcKind) -> u64
-    ensures size { result ≡ size_of kind }
+// The bytes of one value.
+fn value_len(values: &Values) -> u64
+    ensures size { result ≡ size_of (kind_of values.now) }
     ensures small { result ≤ 8 }
 {
-    match kind {
-        NcKind::Byte | NcKind::Char | NcKind::UByte => 1,
-        NcKind::Short | NcKind::UShort => 2,
-        NcKind::Int | NcKind::Float | NcKind::UInt => 4,
-        NcKind::Double | NcKind::Int64 | NcKind::UInt64 => 8,
+    match values {
+        Values::Byte(_) => 1,
+        Values::Int(_) => 4,
+        Values::Long(_) => 8,
     }
 }
 
@@ -141,7 +124,7 @@ fn piece_len(doc: &NcDoc, var: &DocVar) -> u64
 {
     let dims = doc.dims.items.as_slice();
     let ids = var.dims.items.as_slice();
-    let size = size_of(kind_of(&var.values));
+    let size = value_len(&var.values);
     match ids {
         [] => size,
         [id, inner @ ..] => {

@@ -9,8 +9,7 @@ ghost use Rattle.nc_write.specs.File.{name, tagged, dimension, attribute, vsize,
 ghost use Rattle.nc_write.specs.Form.{HasShortLists};
 
 use crate::sizes::{
-    first_len, fixed_len, fixed_total, has_several, is_record_var, kind_of, plus, rounded_piece,
-    type_number,
+    first_len, fixed_len, fixed_total, has_several, is_record_var, plus, rounded_piece, type_number,
 };
 use crate::{DocAtt, DocDim, DocVar, Name, NcDoc};
 use byteorder::{BigEndian, ByteOrder};
@@ -203,7 +202,7 @@ fn put_variable(
     ensures { OnOk result (out.new.items ≡ out.old.items ++ variable doc.now begin var.now) }
 {
     put_shape(out, version, var)?;
-    let kind = type_number(kind_of(&var.values));
+    let kind = type_number(&var.values);
     put_variable_tail(out, version, kind, rounded_piece(doc, var), begin)
 }
 
