@@ -28,13 +28,13 @@ numbers_of (Byte zs) = zs
 numbers_of (Int zs) = zs
 numbers_of (Long zs) = zs
 
+abbrev pub are_long : Values → Bool
+are_long (Byte zs) = false
+are_long (Int zs) = false
+are_long (Long zs) = true
+
 abbrev pub is_long : DocVar → Bool
-is_long v = is_long_of v.values
-  where
-    is_long_of : Values → Bool
-    is_long_of (Byte zs) = false
-    is_long_of (Int zs) = false
-    is_long_of (Long zs) = true
+is_long v = are_long v.values
 
 -- The document as a whole.
 
@@ -48,6 +48,10 @@ lens_of doc = map (λ d. d.len) doc.dims
 
 abbrev pub is_record : NcDoc → DocVar → Bool
 is_record doc v = has_records (lens_of doc) v.dims
+
+-- how many pieces the values stand in
+abbrev pub pieces_of : NcDoc → DocVar → ℕ
+pieces_of doc v = if is_record doc v then doc.records else 1
 
 -- exactly one record variable: its records are not padded
 unfoldable pub has_several : NcDoc → Bool

@@ -1,11 +1,12 @@
 -- Which documents are well formed, and what is said of one whose file is too long.
-use Rattle.std.specs.Prelude.{◌≡◌, ◌≢◌, ℕ, ◌<◌, ◌≤◌, ◌^◌, ◌==◌, List, length, map, drop, All, if◌then◌else◌, slice_index, ⊤}
+use Rattle.std.specs.Prelude.{◌≡◌, ◌≢◌, ℕ, ◌*◌, ◌<◌, ◌≤◌, ◌^◌, ◌==◌, List, length, map, drop, All, if◌then◌else◌, slice_index, ⊤}
 use Rattle.std.specs.List.{count_by}
+use Rattle.nc_write.specs.declared.DocVar.{DocVar}
 use Rattle.nc_write.specs.declared.NcDoc.{NcDoc}
 use Rattle.nc_write.specs.declared.EncFault.{EncFault}
 use Rattle.nc_write.specs.declared.EncFault.TheVariants.{TooLarge, NoMemory}
-use Rattle.nc_write.specs.Extents.{product_of}
-use Rattle.nc_write.specs.File.{lens_of, numbers_of, file_of}
+use Rattle.nc_write.specs.Extents.{product_of, piece_count}
+use Rattle.nc_write.specs.File.{lens_of, numbers_of, pieces_of, file_of}
 
 -- the lengths of all dimensions, with the number of records as the length of the record dimension
 abbrev pub full_lens : NcDoc → List ℕ
@@ -39,6 +40,10 @@ pub record IsWellFormed (doc : NcDoc) : Type 0 where
   pub no_records : All (λ d. d.len ≢ 0) doc.dims → doc.records ≡ 0
   pub short_lists : HasShortLists doc
   pub file : length (file_of doc) < 2 ^ 63
+
+-- a variable has the values of as many pieces as it is to have: one, or one a record
+abbrev pub HasItsValues : NcDoc → DocVar → Type 0
+HasItsValues doc v = length (numbers_of v.values) ≡ pieces_of doc v * piece_count (lens_of doc) v.dims
 
 -- too large is said with the length, and only past the limit
 abbrev pub SaysLength : ℕ → EncFault → Type 0
