@@ -1,4 +1,5 @@
 // The real files and writers, of whose content nothing is told.
+ghost use Rattle.std.specs.Io.KnownBytes.{Appends};
 ghost use Rattle.std.specs.Prelude.{◌≡◌, length, OnOk, OnErr, IsErrOf, IsOkUnless};
 ghost use Rattle.remap_io.specs.Causes.{raised, IsLater};
 ghost use Rattle.remap_io.specs.Host.{asked_for};
@@ -60,6 +61,7 @@ impl<R: std::rt::Files> HostFiles<R> {
     }
 }
 
+// Fills the buffer with the bytes of the file from the offset on.
 fn read_range<R: std::rt::Files>(rt: &R, name: &str, at: u64, buf: &mut [u8]) -> io::Result<()> {
     let mut file = fs::open(rt, name)?;
     file.seek(SeekFrom::Start(at))?;
@@ -153,7 +155,10 @@ impl<W: Write> HostSink<W> {
     }
 }
 
-fn write_out<W: Write>(writer: &mut W, bytes: &[u8]) -> io::Result<()> {
+// Writes all bytes and flushes.
+fn write_out<W: Write>(writer: &mut W, bytes: &[u8]) -> io::Result<()>
+    ensures { OnOk result (Appends (W.contents writer.old) (W.contents writer.new) bytes.now) }
+{
     writer.write_all(bytes)?;
     writer.flush()
 }

@@ -1,12 +1,13 @@
 -- Accepted faces are convex, and their edge planes can be computed with.
 use Rattle.std.proofs.Common.{◌≢◌, ℕ, ◌<◌, pos, ◌<ℤ◌, sym, subst, List, length}
 use Rattle.std.proofs.lemmas.List.Elements.{All-get_or}
-use Rattle.vec_exact.specs.Vector.{Vec3, zero_triple, inner}
+use Rattle.vec_exact.specs.declared.Vec3.{Vec3}
+use Rattle.vec_exact.specs.Vector.{zero_triple, inner}
 use Rattle.vec_exact.specs.Size.{Is37}
 use Rattle.vec_exact.specs.Cycle.{after, edge_plane, Convex, vector_at, face_plane}
 use Rattle.vec_exact.specs.Face.{IsAcceptedNode, IsAcceptedFace}
 use Rattle.vec_exact.proofs.Bounds.{cross_is37}
-use Rattle.vec_exact.proofs.Lengths.{self_pos}
+use Rattle.vec_exact.proofs.Planes.{self_pos}
 use Rattle.vec_exact.proofs.Cycles.{after_below, side_on_edge, turn, convex_by_det}
 
 pub accepted_convex : (f : List Vec3) → IsAcceptedFace f → Convex (length f) (vector_at f)

@@ -2,7 +2,8 @@
 use Rattle.std.proofs.Common.{◌≡◌, ◌⊎◌, inl, inr, ℕ, ◌*◌, ◌<◌, ◌≤◌, ◌^◌, ℤ, ◌+ℤ◌, ◌-ℤ◌, ◌*ℤ◌, unsigned_abs, arith, lit≤, to_z, of_z}
 use Rattle.std.proofs.lemmas.Int.{ints, unsigned_abs-mul}
 use mir.Syntax.{w128}
-use Rattle.vec_exact.specs.Vector.{Vec3, inner, cross, det}
+use Rattle.vec_exact.specs.declared.Vec3.{Vec3}
+use Rattle.vec_exact.specs.Vector.{inner, cross, det}
 use Rattle.vec_exact.specs.Size.{Within, Is18, Is37, Is75, HasInner, HasCross}
 
 pub times_at_most : (x y m n : ℕ) → x ≤ m → y ≤ n → x * y ≤ m * n

@@ -1,7 +1,8 @@
 -- Places in a cycle, and the corners of a convex cycle.
 use Rattle.std.proofs.Common.{◌≡◌, ◌≢◌, ℕ, zero, suc, ◌+◌, ◌-◌, ◌<◌, ◌≤◌, ℤ, pos, ◌≤ℤ◌, ◌<ℤ◌, ◌⊎◌, inl, inr, arith, ap, ◌∙◌, sym, subst}
 use Rattle.std.proofs.lemmas.Int.{ints}
-use Rattle.vec_exact.specs.Vector.{Vec3, inner, cross, det}
+use Rattle.vec_exact.specs.declared.Vec3.{Vec3}
+use Rattle.vec_exact.specs.Vector.{inner, cross, det}
 use Rattle.vec_exact.specs.Cycle.{after, shifted, edge_plane, corner, Convex}
 use Rattle.vec_exact.proofs.Identities.{own_first, own_second, det_turned, inner_turned}
 

@@ -1,6 +1,7 @@
 -- Equations of triples, by `ring`.
 use Rattle.std.proofs.Common.{◌≡◌, ℤ, pos, negsuc, neg_ℤ, ◌+ℤ◌, ◌-ℤ◌, ◌*ℤ◌, refl, [], ◌∷◌}
-use Rattle.vec_exact.specs.Vector.{Vec3, zero_triple, inner, cross, det, scaled, added}
+use Rattle.vec_exact.specs.declared.Vec3.{Vec3}
+use Rattle.vec_exact.specs.Vector.{zero_triple, inner, cross, det, scaled, added}
 use Rattle.vec_exact.proofs.Ring.{var, num, plus, minus, mul, ring}
 use Rattle.vec_exact.proofs.Terms.{vec_eq, less, inner_t, cross_t, det_t, scaled_t, added_t, zero_t, v, look, number}
 

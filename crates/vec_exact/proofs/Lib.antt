@@ -5,6 +5,6 @@ pub mod Bounds
 pub mod Rounded
 pub mod Terms
 pub mod Identities
-pub mod Lengths
+pub mod Planes
 pub mod Cycles
 pub mod Accepted

@@ -1,6 +1,6 @@
 -- Triples of terms, by which `ring` proves equations of triples.
 use Rattle.std.proofs.Common.{◌≡◌, ℕ, zero, suc, ℤ, pos, List, [], ◌∷◌}
-use Rattle.vec_exact.specs.Vector.{Vec3}
+use Rattle.vec_exact.specs.declared.Vec3.{Vec3}
 use Rattle.vec_exact.proofs.Ring.{Term, var, num, plus, minus, mul}
 
 pub vec_eq : (a b : Vec3) → a.x ≡ b.x → a.y ≡ b.y → a.z ≡ b.z → a ≡ b

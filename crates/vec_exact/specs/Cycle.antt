@@ -1,6 +1,7 @@
 -- Cycles of triples: the nodes of a face, the planes of a ring or of a cell.
 use Rattle.std.specs.Prelude.{◌≢◌, ℕ, suc, ◌+◌, ◌-◌, ◌<◌, ◌≤◌, pos, ◌<ℤ◌, nat_eq, nat_lt, if◌then◌else◌, List, length, slice_index_or}
-use Rattle.vec_exact.specs.Vector.{Vec3, zero_triple, inner, cross}
+use Rattle.vec_exact.specs.declared.Vec3.{Vec3}
+use Rattle.vec_exact.specs.Vector.{zero_triple, inner, cross}
 
 -- the place after t in a cycle of k places, which count from 0
 unfoldable pub after : ℕ → ℕ → ℕ

@@ -1,6 +1,7 @@
 -- Accepted faces.
 use Rattle.std.specs.Prelude.{◌≢◌, ℕ, ◌-◌, ◌<◌, ◌≤◌, ℤ, pos, ◌≤ℤ◌, ◌<ℤ◌, unsigned_abs, List, [], length, map, All, slice_index_or}
-use Rattle.vec_exact.specs.Vector.{Vec3, zero_triple, det}
+use Rattle.vec_exact.specs.declared.Vec3.{Vec3}
+use Rattle.vec_exact.specs.Vector.{zero_triple, det}
 use Rattle.vec_exact.specs.Size.{Is18}
 use Rattle.vec_exact.specs.Cycle.{after, vector_at}
 

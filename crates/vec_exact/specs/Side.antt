@@ -2,7 +2,8 @@
 use Rattle.std.specs.Prelude.{◌≡◌, zero, suc, ℤ, pos, negsuc, ◌<ℤ◌}
 use Rattle.vec_exact.specs.declared.vectors.Sign.{Sign}
 use Rattle.vec_exact.specs.declared.vectors.Sign.TheVariants.{Neg, On, Pos}
-use Rattle.vec_exact.specs.Vector.{Vec3, zero_triple, inner, cross}
+use Rattle.vec_exact.specs.declared.Vec3.{Vec3}
+use Rattle.vec_exact.specs.Vector.{zero_triple, inner, cross}
 
 -- the sign of a number
 abbrev pub sign_of : ℤ → Sign

@@ -1,6 +1,6 @@
 -- The sizes of triples with which 128 bits are enough.
 use Rattle.std.specs.Prelude.{ℕ, ◌≤◌, ◌⊎◌, unsigned_abs}
-use Rattle.vec_exact.specs.Vector.{Vec3}
+use Rattle.vec_exact.specs.declared.Vec3.{Vec3}
 
 -- each component is at most m in size
 pub record Within (m : ℕ) (v : Vec3) : Type 0 where

@@ -1,5 +1,5 @@
 -- Triples of whole numbers, and their products.
-pub use Rattle.vec_exact.specs.declared.Vec3.{Vec3}
+use Rattle.vec_exact.specs.declared.Vec3.{Vec3}
 use Rattle.std.specs.Prelude.{ℤ, pos, ◌+ℤ◌, ◌-ℤ◌, ◌*ℤ◌}
 
 -- the zero triple
