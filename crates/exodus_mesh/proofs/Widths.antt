@@ -12,5 +12,8 @@ within : (a : ℕ) (faces : List (List ℤ)) (w : ℕ) → fold max a (map lengt
 within a [] w h = tt
 within a (f ∷ fs) w h = (omega (arith, h, grows (max a (length f)) fs), within (max a (length f)) fs w h)
 
+pub all_within_each : (faces : List (List ℤ)) → AllByRecursion (λ face. length face ≤ width_of faces) faces
+all_within_each faces = within 0 faces (width_of faces) (omega arith)
+
 pub all_within : (faces : List (List ℤ)) → All (λ face. length face ≤ width_of faces) faces
-all_within faces = All-from_recursion (λ face. length face ≤ width_of faces) faces (within 0 faces (width_of faces) (omega arith))
+all_within faces = All-from_recursion (λ face. length face ≤ width_of faces) faces (all_within_each faces)
