@@ -1,6 +1,7 @@
 // How a command ends.
-ghost use Rattle.std.specs.Prelude.{◌≡◌, ◌≢◌, ◌⊎◌};
+ghost use Rattle.std.specs.Prelude.{◌≡◌, ◌≢◌, ◌⊎◌, codes};
 ghost use Rattle.remap_io.specs.Causes.{Rose};
+ghost use Rattle.tempest_top.specs.Lines.{line_of, GainsLine};
 ghost use Rattle.tempest_top.specs.Outcome.{Outcome, Output, written};
 ghost use Rattle.tempest_top.specs.Promises.{Keeps};
 
@@ -47,4 +48,14 @@ pub fn write_then_text<F: Files, O: Sink, E: Sink>(
             Status::NoMemory
         }
     }
+}
+
+/// Puts the line that memory ran out.
+pub fn refuse_memory<E: Sink>(err: &mut E) -> Status
+    ensures status { result ≡ Status.NoMemory }
+    ensures line { GainsLine (E.contents err.old) (E.contents err.new) (line_of (codes "no memory"))
+        (Rose (E.faults err.old) (E.faults err.new) ⊎ Rose (E.refusals err.old) (E.refusals err.new)) }
+{
+    put_line(err, &["no memory"]);
+    Status::NoMemory
 }

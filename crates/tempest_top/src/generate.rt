@@ -1,7 +1,8 @@
 // The commands that make a mesh.
-ghost use Rattle.std.specs.Prelude.{◌≡◌, ◌≢◌, ◌≤◌, ◌⊎◌, IfOk, Some, string_bytes};
+ghost use Rattle.std.specs.Prelude.{◌≡◌, ◌≢◌, ◌≤◌, ◌⊎◌, IfOk, Some, length, string_bytes};
 ghost use Rattle.remap_io.specs.Causes.{Rose};
 ghost use Rattle.nc_write.specs.File.{file_of};
+ghost use Rattle.nc_write.specs.Form.{IsWellFormed};
 ghost use Rattle.gen_cs.specs.CubedSphere.{cubed_sphere};
 ghost use Rattle.exodus_mesh.specs.MeshDocument.{mesh_document};
 ghost use Rattle.command_line.specs.declared.choices.Chosen.TheVariants.{Cs};

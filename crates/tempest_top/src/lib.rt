@@ -2,6 +2,7 @@
 #![tactic(auto)]
 
 mod finish;
+mod generate;
 mod lines;
 mod status;
 
