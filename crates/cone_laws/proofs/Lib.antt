@@ -8,5 +8,6 @@ pub mod Appended
 pub mod Passing
 pub mod Unique
 pub mod FaceEdges
+pub mod LinearForms
 pub mod Pairs
 pub mod Diagonals
