@@ -1,5 +1,5 @@
 -- Planes that are not zero, and planes of one direction.
-use Rattle.std.proofs.Common.{◌≡◌, ◌≢◌, pos, negsuc, ◌≤ℤ◌, ◌<ℤ◌, arith, ap, ◌∙◌, inl, inr}
+use Rattle.std.proofs.Common.{◌≢◌, pos, negsuc, ◌≤ℤ◌, ◌<ℤ◌, arith, ap, ◌∙◌, inl, inr}
 use Rattle.std.proofs.lemmas.Int.{ints}
 use Rattle.std.proofs.Math.IntN.{*ℤ_comm}
 use Rattle.vec_exact.specs.declared.Vec3.{Vec3}

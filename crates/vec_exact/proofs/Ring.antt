@@ -12,6 +12,7 @@ pub data Term : Type 0 where
   minus : Term → Term
   mul : Term → Term → Term
 
+-- what a term is worth, where r gives the values of the variables
 abbrev pub value : Term → (ℕ → ℤ) → ℤ
 value (var i) r = r i
 value (num c) r = c
@@ -24,13 +25,16 @@ pub data Poly : Type 0 where
   con : ℤ → Poly
   hor : Poly → Poly → Poly
 
+-- the values of the variables after the first one
 abbrev shift : (ℕ → ℤ) → ℕ → ℤ
 shift r i = r (suc i)
 
+-- what a polynomial is worth
 abbrev at : Poly → (ℕ → ℤ) → ℤ
 at (con c) r = c
 at (hor p q) r = at p (shift r) +ℤ r 0 *ℤ at q r
 
+-- sums, and multiples by a number and by a variable
 abbrev add_number : ℤ → Poly → Poly
 add_number c (con d) = con (c +ℤ d)
 add_number c (hor p q) = hor (add_number c p) q
@@ -61,6 +65,7 @@ run (plus a b) p = add (run a p) (run b p)
 run (minus a) p = scale (negsuc 0) (run a p)
 run (mul a b) p = run a (run b p)
 
+-- whether all coefficients are zero
 abbrev both : Bool → Bool → Bool
 both true b = b
 both false b = false
@@ -74,6 +79,7 @@ abbrev pub vanishes : Poly → Bool
 vanishes (con c) = is_zero c
 vanishes (hor p q) = both (vanishes p) (vanishes q)
 
+-- ---- each step keeps what the polynomial is worth
 at-add_number : (c : ℤ) (p : Poly) (r : ℕ → ℤ) → at (add_number c p) r ≡ c +ℤ at p r
 at-add_number c (con d) r = refl
 at-add_number c (hor p q) r = omega (arith, ints, at-add_number c p (shift r))
@@ -135,6 +141,7 @@ at-vanishes (hor p q) r h =
       zero_times (r 0),
     )
 
+-- the procedure: its last argument is `refl` exactly where the difference of the two sides multiplies out to nothing
 pub ring : (a b : Term) (r : ℕ → ℤ) → vanishes (run (plus a (minus b)) (con (pos 1))) ≡ true → value a r ≡ value b r
 ring a b r h =
     omega (

@@ -7,7 +7,7 @@ use Rattle.vec_exact.specs.Cycle.{after, vector_at}
 
 -- three numbers as a triple
 abbrev pub vector_of : List ℤ → Vec3
-vector_of row = record { x = slice_index_or row 0 (pos 0); y = slice_index_or row 1 (pos 0); z = slice_index_or row 2 (pos 0) }
+vector_of numbers = record { x = slice_index_or numbers 0 (pos 0); y = slice_index_or numbers 1 (pos 0); z = slice_index_or numbers 2 (pos 0) }
 
 -- j is the number of one of the nodes, which count from 1
 abbrev pub IsNodeNumber : List (List ℤ) → ℤ → Type 0
@@ -28,13 +28,17 @@ pub record IsAcceptedNode (v : Vec3) : Type 0 where
 
 -- a face, given by its nodes in order, passes the test of acceptance
 pub record IsAcceptedFace (f : List Vec3) : Type 0 where
+  -- 1. it has 3 to 16 nodes
   pub least_size : 3 ≤ length f
   pub greatest_size : length f ≤ 16
+  -- 2. none of its nodes is the zero triple, and none is too large
   pub nodes : All IsAcceptedNode f
+  -- 3. det(v_t, v_(t+1), v_s) is positive for each edge from v_t to v_(t+1) and each other place s
   pub turns : (t s : ℕ) → t < length f → s < length f → s ≢ t → s ≢ after (length f) t
       → pos 0 <ℤ det (vector_at f t) (vector_at f (after (length f) t)) (vector_at f s)
 
 -- a face, given by the numbers of its nodes, is accepted over a list of nodes
 pub record IsAccepted (nodes : List (List ℤ)) (face : List ℤ) : Type 0 where
+  -- each of its numbers names a node
   pub in_range : All (IsNodeNumber nodes) face
   pub accepted : IsAcceptedFace (face_nodes nodes face)
