@@ -3,3 +3,4 @@ pub mod Items
 pub mod Words
 pub mod Views
 pub mod Steps
+pub mod Clap

@@ -51,7 +51,7 @@ fn first_item<'a>(word: &'a str, after: &'a [String]) -> Option<(Item<'a>, &'a [
 }
 
 /// The items of the words, or none where a word stands outside an item.
-pub fn items<'a>(alloc: Global, words: &'a [String]) -> Result<Option<Vec<Item<'a>>>, AllocError>
+pub fn items_in<'a>(alloc: Global, words: &'a [String]) -> Result<Option<Vec<Item<'a>>>, AllocError>
     ensures { IfOk result (λ found. option_map (λ v. map item_of v.items) found ≡ items_of (texts words.now)) }
 {
     let mut items = Vec::new(alloc);
