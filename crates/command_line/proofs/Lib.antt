@@ -1,5 +1,5 @@
 pub mod Lists
-pub mod Steps
+pub mod FirstItems
 pub mod Computed
 pub mod Fitting
 pub mod Right

@@ -28,23 +28,17 @@ chosen-requires c =
     let found = found_of c.in-Ok.matches in
     are_told (rules_of c.args.command) (at items) (first_value found) (rows_of found) (first_value-rows found) (fit c.args.command items c.requires) read
 
-pub returns-in-Ok-clause-chosen : goal.returns-in-Ok-clause-chosen
-returns-in-Ok-clause-chosen c =
+pub returns-in-Ok : goal.returns-in-Ok
+returns-in-Ok c =
     let items = map item_of c.args.items.now in
     let words = ap texts c.as_slice.ensures.value ∙ c.in_ok-words.ensures in
     let read = c.in-Ok.ensures.values (values_of c.args.command (at items)) words (is_read c.args.command items c.requires) in
     let found = found_of c.in-Ok.matches in
     let same = same_choice c.args.command (at items) (first_value found) (rows_of found) (first_value-rows found) read in
-    IfOk-weaker c.chosen.result _ _ (λ r is. is ∙ same) c.chosen.ensures
-
-pub returns-in-Ok-clause-limits : goal.returns-in-Ok-clause-limits
-returns-in-Ok-clause-limits c =
-    let items = map item_of c.args.items.now in
-    let words = ap texts c.as_slice.ensures.value ∙ c.in_ok-words.ensures in
-    let read = c.in-Ok.ensures.values (values_of c.args.command (at items)) words (is_read c.args.command items c.requires) in
-    let found = found_of c.in-Ok.matches in
-    let same = same_choice c.args.command (at items) (first_value found) (rows_of found) (first_value-rows found) read in
-    IfOk-weaker c.chosen.result _ _ (λ r is. subst HasLimits (sym (is ∙ same)) (has_limits c.args.command (at items) (fit c.args.command items c.requires))) c.chosen.ensures
+    record {
+      chosen = IfOk-weaker c.chosen.result _ _ (λ r is. is ∙ same) c.chosen.ensures;
+      limits = IfOk-weaker c.chosen.result _ _ (λ r is. subst HasLimits (sym (is ∙ same)) (has_limits c.args.command (at items) (fit c.args.command items c.requires))) c.chosen.ensures;
+    }
 
 pub unreachable-requires : goal.unreachable-requires
 unreachable-requires c =
