@@ -1,4 +1,6 @@
 pub mod Lists
-pub mod Steps
-pub mod Spelled
+pub mod FirstItems
 pub mod Computed
+pub mod Fitting
+pub mod Right
+pub mod Limits

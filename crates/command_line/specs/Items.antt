@@ -1,5 +1,5 @@
 -- How the words after the command are read into items.
-use Rattle.std.specs.Prelude.{ℕ, Bool, ◌||◌, ◌&&◌, not, ◌==◌, if◌then◌else◌, List, [], ◌∷◌, drop, Option, Some, None, option_map, codes, nat_eq}
+use Rattle.std.specs.Prelude.{ℕ, Bool, ◌||◌, not, ◌==◌, if◌then◌else◌, List, [], ◌∷◌, drop, Option, Some, None, option_map, codes, nat_eq}
 use Rattle.std.specs.List.{before_first, after_first, starts_with, list_any}
 use Rattle.std.specs.Str.{bytes_eq}
 
@@ -14,6 +14,7 @@ valued name value = record { name = name; value = Some value }
 abbrev pub flag : List ℕ → Item
 flag name = record { name = name; value = None }
 
+-- The two flags of the program.
 abbrev pub is_flag : List ℕ → Bool
 is_flag word = bytes_eq word (codes "--dual") || bytes_eq word (codes "--masked")
 
@@ -27,22 +28,26 @@ without_dashes word = drop 2 word
 abbrev pub is_equals : ℕ → Bool
 is_equals b = b == 61
 
--- An item in one word, name=value: the two sides of the first equals sign.
+abbrev pub has_equals : List ℕ → Bool
+has_equals word = list_any is_equals (without_dashes word)
+
+-- The item of a word --name=value: the two sides of its first equals sign.
 abbrev pub parted : List ℕ → Item
-parted text = valued (before_first is_equals text) (after_first is_equals text)
+parted word = valued (before_first is_equals (without_dashes word)) (after_first is_equals (without_dashes word))
 
 abbrev pub followed_by : Item → Option (List Item) → Option (List Item)
 followed_by item rest = option_map (λ items. item ∷ items) rest
 
--- The items of the words, from the first word on: --dual or --masked alone, --name=value in one word, or --name value in two. There are none where a word stands outside an item.
-abbrev pub items_of : List (List ℕ) → Option (List Item)
-items_of [] = Some []
-items_of (word ∷ []) =
-    if is_flag word then Some (flag (without_dashes word) ∷ [])
-    else (if has_two_dashes word && list_any is_equals (without_dashes word) then Some (parted (without_dashes word) ∷ [])
-    else None)
-items_of (word ∷ next ∷ rest) =
-    if is_flag word then followed_by (flag (without_dashes word)) (items_of (next ∷ rest))
+-- The items of the words: --dual or --masked alone, --name=value in one word, or --name value in two. A name stands before the words where its value is the first of them. There are no items where a word stands outside them.
+abbrev pub items_from : Option (List ℕ) → List (List ℕ) → Option (List Item)
+items_from None [] = Some []
+items_from (Some name) [] = None
+items_from (Some name) (value ∷ rest) = followed_by (valued name value) (items_from None rest)
+items_from None (word ∷ rest) =
+    if is_flag word then followed_by (flag (without_dashes word)) (items_from None rest)
     else (if not (has_two_dashes word) then None
-    else (if list_any is_equals (without_dashes word) then followed_by (parted (without_dashes word)) (items_of (next ∷ rest))
-    else followed_by (valued (without_dashes word) next) (items_of rest)))
+    else (if has_equals word then followed_by (parted word) (items_from None rest)
+    else items_from (Some (without_dashes word)) rest))
+
+abbrev pub items_of : List (List ℕ) → Option (List Item)
+items_of words = items_from None words

@@ -2,4 +2,5 @@ pub mod Table
 pub mod Items
 pub mod Words
 pub mod Views
-pub mod Steps
+pub mod FirstItem
+pub mod Clap

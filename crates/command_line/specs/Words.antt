@@ -1,6 +1,7 @@
 -- The command with its options that the words ask for.
 use Rattle.std.specs.Prelude.{◌≡◌, ◌≤◌, ℕ, Bool, true, false, not, ◌&&◌, ◌==◌, nat_le, if◌then◌else◌, List, [], ◌∷◌, length, filter, map, Option, Some, None, option_map, option_and_then, unwrap_or, codes, find, ⊤, String, string_bytes, is_some}
 use Rattle.std.specs.List.{list_all, list_any}
+use Rattle.std.specs.Option.{option_map_or}
 use Rattle.std.specs.Str.{bytes_eq, all_ascii_digits}
 use Rattle.std.specs.Str.Parse.{digits_value}
 use Rattle.std.specs.declared.alloc.Global.{Global}
@@ -63,33 +64,38 @@ are_right rules items = all_kept rules items && all_known rules items
 abbrev pub at : List Item → List ℕ → Option (Option (List ℕ))
 at items name = option_map (λ i. i.value) (find (λ i. bytes_eq i.name name) items)
 
-abbrev pub text_at : (List ℕ → Option (Option (List ℕ))) → List ℕ → List ℕ
-text_at given name = unwrap_or (option_and_then (λ v. v) (given name)) []
+abbrev pub value_in : List Item → List ℕ → Option (List ℕ)
+value_in items name = option_and_then (λ v. v) (at items name)
 
-abbrev pub number_at : (List ℕ → Option (Option (List ℕ))) → List ℕ → ℕ
-number_at given name = digits_value 10 (text_at given name)
+abbrev pub stands_in : List Item → List ℕ → Bool
+stands_in items name = is_some (at items name)
 
-abbrev pub flag_at : (List ℕ → Option (Option (List ℕ))) → List ℕ → Bool
-flag_at given name = is_some (given name)
+abbrev pub text_of : (List ℕ → Option (List ℕ)) → List ℕ → List ℕ
+text_of value name = unwrap_or (value name) []
 
--- one worker where the words don't say
-abbrev pub workers_at : (List ℕ → Option (Option (List ℕ))) → ℕ
-workers_at given = if flag_at given (codes "workers") then number_at given (codes "workers") else 1
+abbrev pub number_of : (List ℕ → Option (List ℕ)) → List ℕ → ℕ
+number_of value name = digits_value 10 (text_of value name)
 
-abbrev pub choice_of : Command → (List ℕ → Option (Option (List ℕ))) → Chosen
-choice_of GenerateCSMesh g = Cs (number_at g (codes "res")) (text_at g (codes "file"))
-choice_of GenerateRLLMesh g = Rll (number_at g (codes "lon")) (number_at g (codes "lat")) (text_at g (codes "file"))
-choice_of GenerateICOMesh g = Ico (number_at g (codes "res")) (flag_at g (codes "dual")) (text_at g (codes "file"))
-choice_of GenerateOverlapMesh g = Overlap (text_at g (codes "a")) (text_at g (codes "b")) (text_at g (codes "out")) (workers_at g)
-choice_of GenerateOfflineMap g = OfflineMap (text_at g (codes "in_mesh")) (text_at g (codes "out_mesh")) (text_at g (codes "ov_mesh")) (text_at g (codes "out_map"))
-choice_of ApplyOfflineMap g = Apply (text_at g (codes "map")) (text_at g (codes "var")) (text_at g (codes "in_data")) (text_at g (codes "out_data")) (flag_at g (codes "masked"))
-choice_of SelfRun g = SelfRunOf (number_at g (codes "n")) (workers_at g)
-choice_of CheckCoverage g = Coverage (text_at g (codes "a")) (text_at g (codes "b"))
-choice_of CheckMesh g = Check (text_at g (codes "file")) (workers_at g)
+-- One worker where the words don't say.
+abbrev pub workers_of : (List ℕ → Option (List ℕ)) → ℕ
+workers_of value = option_map_or (digits_value 10) (value (codes "workers")) 1
 
+-- The command with its options, by the values that the options have and the flags that stand.
+abbrev pub choice_of : Command → (List ℕ → Option (List ℕ)) → (List ℕ → Bool) → Chosen
+choice_of GenerateCSMesh v stands = Cs (number_of v (codes "res")) (text_of v (codes "file"))
+choice_of GenerateRLLMesh v stands = Rll (number_of v (codes "lon")) (number_of v (codes "lat")) (text_of v (codes "file"))
+choice_of GenerateICOMesh v stands = Ico (number_of v (codes "res")) (stands (codes "dual")) (text_of v (codes "file"))
+choice_of GenerateOverlapMesh v stands = Overlap (text_of v (codes "a")) (text_of v (codes "b")) (text_of v (codes "out")) (workers_of v)
+choice_of GenerateOfflineMap v stands = OfflineMap (text_of v (codes "in_mesh")) (text_of v (codes "out_mesh")) (text_of v (codes "ov_mesh")) (text_of v (codes "out_map"))
+choice_of ApplyOfflineMap v stands = Apply (text_of v (codes "map")) (text_of v (codes "var")) (text_of v (codes "in_data")) (text_of v (codes "out_data")) (stands (codes "masked"))
+choice_of SelfRun v stands = SelfRunOf (number_of v (codes "n")) (workers_of v)
+choice_of CheckCoverage v stands = Coverage (text_of v (codes "a")) (text_of v (codes "b"))
+choice_of CheckMesh v stands = Check (text_of v (codes "file")) (workers_of v)
+
+-- What a command comes to with these items.
 abbrev pub asked : Command → Option (List Item) → Option Chosen
 asked command None = None
-asked command (Some items) = if are_right (rules_of command) items then Some (choice_of command (at items)) else None
+asked command (Some items) = if are_right (rules_of command) items then Some (choice_of command (value_in items) (stands_in items)) else None
 
 -- The command with its options, if the words are in the grammar.
 unfoldable pub options_of : List (List ℕ) → Option Chosen

@@ -1,4 +1,8 @@
 // What the words of the command line ask for.
+ghost use Rattle.std.specs.Prelude.{◌≡◌};
+ghost use Rattle.command_line.specs.declared.choices.OptFault.TheVariants.{NoMemory};
+
+use std::alloc::AllocError;
 use std::marker::Model;
 
 /// A text of the command line, seen as the list of its bytes. It has at least one byte, and the
@@ -84,4 +88,12 @@ pub enum OptFault {
     Usage,
     /// Memory ran out.
     NoMemory,
+}
+
+impl From<AllocError> for OptFault {
+    ghost from_gives = { λ _ e. e ≡ NoMemory };
+
+    fn from(_error: AllocError) -> OptFault {
+        OptFault::NoMemory
+    }
 }

@@ -3,8 +3,7 @@ ghost use Rattle.std.specs.Prelude.{◌≡◌, ◌≤◌, ◌<◌, Some, None, [
 ghost use Rattle.std.specs.Str.{all_ascii_digits};
 ghost use Rattle.std.specs.Str.Parse.{digits_value};
 ghost use Rattle.command_line.specs.Words.{all_kept, all_known, are_right, has_form, is_number, is_numeral, is_option, is_value, keeps, named};
-ghost use Rattle.command_line.specs.Views.{item_of, rule_of};
-ghost use Rattle.command_line.specs.Steps.{StandsAs};
+ghost use Rattle.command_line.specs.Views.{item_of, rule_of, StandsAs};
 
 use crate::items::Item;
 use crate::table::{Form, Rule};

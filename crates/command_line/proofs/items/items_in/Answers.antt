@@ -3,8 +3,8 @@ use Rattle.std.proofs.lemmas.List.{map-append}
 use Rattle.command_line.specs.Items.{Item, items_of}
 use Rattle.command_line.specs.Views.{item_of}
 use Rattle.command_line.specs.Words.{texts}
-use Rattle.command_line.proofs.Steps.{walks_on}
-use Rattle.command_line.proofs.items.items.Goals as goal
+use Rattle.command_line.proofs.FirstItems.{walks_on}
+use Rattle.command_line.proofs.items.items_in.Goals as goal
 
 pub loop-rest-preserved : goal.loop-rest-preserved
 loop-rest-preserved c =
