@@ -1,2 +1,2 @@
 mod Widths
-mod MeshLength
+pub mod MeshLength

@@ -1,2 +1,3 @@
 mod Gaining
 mod Written
+pub mod Outcomes

@@ -1,5 +1,5 @@
 -- A file that was replaced whole.
-use Rattle.std.proofs.Common.{◌≡◌, ◌∙◌, ℕ, List, Option, Some, None, option_map, length, take, inr, sym, ap}
+use Rattle.std.proofs.Common.{◌≡◌, ◌∙◌, ℕ, List, Option, Some, None, option_map, length, inr, sym, ap}
 use Rattle.std.proofs.Math.Seq.{take-length}
 use Rattle.remap_io.specs.Folder.{Folder, with_file, IsPartlyReplaced}
 

@@ -59,3 +59,13 @@ pub fn refuse_memory<E: Sink>(err: &mut E) -> Status
     put_line(err, &["no memory"]);
     Status::NoMemory
 }
+
+/// Puts the line that the words are out of the grammar.
+pub fn refuse_usage<E: Sink>(err: &mut E) -> Status
+    ensures status { result ≡ Status.Usage }
+    ensures line { GainsLine (E.contents err.old) (E.contents err.new) (line_of (codes "usage"))
+        (Rose (E.faults err.old) (E.faults err.new) ⊎ Rose (E.refusals err.old) (E.refusals err.new)) }
+{
+    put_line(err, &["usage"]);
+    Status::Usage
+}

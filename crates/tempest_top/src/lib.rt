@@ -3,7 +3,12 @@
 
 mod finish;
 mod generate;
+mod laws;
 mod lines;
 mod status;
+mod top;
 
+pub use command_line::{Chosen, OptFault, Text, options};
+pub use laws::law_one_outcome;
 pub use status::Status;
+pub use top::run;
