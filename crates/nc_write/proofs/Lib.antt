@@ -3,3 +3,4 @@ pub mod PartLengths
 pub mod Records
 pub mod Vsizes
 pub mod Places
+mod Samples
