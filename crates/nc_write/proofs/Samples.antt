@@ -1,5 +1,5 @@
 -- The documents of the tests are well formed.
-use Rattle.std.proofs.Common.{◌≡◌, ◌≢◌, ◌<◌, ◌≤◌, ◌^◌, ◌==◌, ℕ, List, [], ◌∷◌, All, length, drop, slice_index, refl, arith, rules}
+use Rattle.std.proofs.Common.{◌≡◌, ◌≢◌, ◌<◌, ◌≤◌, ◌^◌, ◌==◌, ℕ, [], All, length, drop, slice_index, refl, arith, rules}
 use Rattle.std.specs.List.{AllByRecursion, count_by}
 use Rattle.std.proofs.lemmas.List.Elements.{All-from_recursion, All-weaker}
 use Rattle.nc_write.specs.declared.NcDoc.{NcDoc}
@@ -10,8 +10,8 @@ use Rattle.nc_write.specs.Kinds.{value}
 use Rattle.nc_write.specs.Widths.{width, begin_width, number, offset, code}
 use Rattle.nc_write.specs.Extents.{product_of, has_records, piece_count}
 use Rattle.nc_write.specs.File.{version_of, has_several, piece_len, name, tagged, dimension, attribute, vsize, shape, variable, header, header_len, fixed_data, record_data, record_of, data_of, file_of, numbers_of, lens_of}
-use Rattle.nc_write.specs.Form.{IsWellFormed, HasShortLists, full_lens}
-use Rattle.nc_write.specs.Samples.{one_record_variable, two_record_variables, smallest_cubed_sphere, no_pieces}
+use Rattle.nc_write.specs.Form.{IsWellFormed, full_lens}
+use Rattle.nc_write.specs.Samples.{one_record_variable, two_record_variables, smallest_cubed_sphere, no_pieces, without_records}
 
 -- the rules by recursion over the lists of a document
 record Rules (doc : NcDoc) : Type 0 where
@@ -156,3 +156,29 @@ none_rules = record {
 
 pub none_form : IsWellFormed no_pieces
 none_form = well_formed no_pieces 104 none_rules none_length (omega arith)
+
+long_length : length (file_of without_records) ≡ 268
+unfolding without_records value width begin_width number offset code product_of has_records piece_count version_of has_several piece_len name tagged dimension attribute vsize shape variable header header_len fixed_data record_data record_of data_of file_of
+long_length = refl
+
+long_rules : Rules without_records
+unfolding without_records product_of
+long_rules = record {
+  lens = search rules;
+  ids = search rules;
+  record_dim_first = search rules;
+  values = search rules;
+  dim_names = search rules;
+  att_names = search rules;
+  var_names = search rules;
+  id_lists = search rules;
+  few_dims = omega arith;
+  few_atts = omega arith;
+  few_vars = omega arith;
+  one_record_dim = omega arith;
+  records = omega arith;
+  no_records = λ _. refl;
+}
+
+pub long_form : IsWellFormed without_records
+long_form = well_formed without_records 268 long_rules long_length (omega arith)

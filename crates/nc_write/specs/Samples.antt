@@ -1,7 +1,7 @@
 -- The documents of the tests.
 use Rattle.std.specs.Prelude.{ℕ, ℤ, pos, negsuc, List, [], ◌∷◌, codes}
 use Rattle.nc_write.specs.declared.Values.{Values}
-use Rattle.nc_write.specs.declared.Values.TheVariants.{Byte, Int}
+use Rattle.nc_write.specs.declared.Values.TheVariants.{Byte, Int, Long}
 use Rattle.nc_write.specs.declared.DocDim.{DocDim}
 use Rattle.nc_write.specs.declared.DocAtt.{DocAtt}
 use Rattle.nc_write.specs.declared.DocVar.{DocVar}
@@ -31,6 +31,15 @@ one_record_variable = records_of (variable_of (codes "b") (0 ∷ 1 ∷ []) (Byte
 
 unfoldable pub two_record_variables : NcDoc
 two_record_variables = records_of (variable_of (codes "b") (0 ∷ 1 ∷ []) (Byte upwards) ∷ variable_of (codes "c") (0 ∷ 1 ∷ []) (Byte downwards) ∷ [])
+
+-- a Long variable, and a record variable without a record
+unfoldable pub without_records : NcDoc
+without_records = record {
+  records = 0;
+  dims = dimension_of (codes "t") 0 ∷ dimension_of (codes "n") 2 ∷ [];
+  atts = attribute_of (codes "fill_value") (negsuc 0) ∷ [];
+  vars = variable_of (codes "S") (1 ∷ []) (Long (pos 5 ∷ negsuc 5 ∷ [])) ∷ variable_of (codes "r") (0 ∷ 1 ∷ []) (Int []) ∷ [];
+}
 
 abbrev pub mesh_dims : List DocDim
 mesh_dims =

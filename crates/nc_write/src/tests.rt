@@ -1,14 +1,14 @@
-// Files of four documents, by their bytes.
+// Files of five documents, by their bytes.
 ghost use Rattle.std.specs.Prelude.{◌≡◌, [], ◌∷◌, IfOk, codes};
 ghost use Rattle.nc_write.specs.declared.Values.TheVariants.{Byte, Int};
-ghost use Rattle.nc_write.specs.Samples.{dimension_of, attribute_of, variable_of, records_of, upwards, downwards, mesh_dims, one_record_variable, two_record_variables, smallest_cubed_sphere, no_pieces};
+ghost use Rattle.nc_write.specs.Samples.{dimension_of, attribute_of, variable_of, records_of, upwards, downwards, mesh_dims, one_record_variable, two_record_variables, without_records, smallest_cubed_sphere, no_pieces};
 
 use crate::{
     Bytes8, DimIds, DocAtt, DocAtts, DocDim, DocDims, DocVar, DocVars, Name, NcDoc, Values, encode,
 };
 use std::alloc::{AllocError, Global};
 use std::test::*;
-use vec_exact::Ints;
+use vec_exact::{Ints, Longs};
 
 // Records of 3 bytes: the variable begins at 100, and there is no padding.
 const ONE_RECORD_VARIABLE: [u8; 109] = [
@@ -57,6 +57,20 @@ const NO_PIECES: [u8; 104] = [
     0, 0, 0, 0, 4, 0, 0, 0, 1, 0, 0, 0, 0, 0, 0, 0, 0, 0, 0, 0, 0,
 ];
 
+// Version 5 without a record: the variables begin at 252 and 268.
+const WITHOUT_RECORDS: [u8; 268] = [
+    67, 68, 70, 5, 0, 0, 0, 0, 0, 0, 0, 0, 0, 0, 0, 10, 0, 0, 0, 0, 0, 0, 0, 2, 0, 0, 0, 0, 0, 0,
+    0, 1, 116, 0, 0, 0, 0, 0, 0, 0, 0, 0, 0, 0, 0, 0, 0, 0, 0, 0, 0, 1, 110, 0, 0, 0, 0, 0, 0, 0,
+    0, 0, 0, 2, 0, 0, 0, 12, 0, 0, 0, 0, 0, 0, 0, 1, 0, 0, 0, 0, 0, 0, 0, 10, 102, 105, 108, 108,
+    95, 118, 97, 108, 117, 101, 0, 0, 0, 0, 0, 4, 0, 0, 0, 0, 0, 0, 0, 1, 255, 255, 255, 255, 0, 0,
+    0, 11, 0, 0, 0, 0, 0, 0, 0, 2, 0, 0, 0, 0, 0, 0, 0, 1, 83, 0, 0, 0, 0, 0, 0, 0, 0, 0, 0, 1, 0,
+    0, 0, 0, 0, 0, 0, 1, 0, 0, 0, 0, 0, 0, 0, 0, 0, 0, 0, 0, 0, 0, 0, 10, 0, 0, 0, 0, 0, 0, 0, 16,
+    0, 0, 0, 0, 0, 0, 0, 252, 0, 0, 0, 0, 0, 0, 0, 1, 114, 0, 0, 0, 0, 0, 0, 0, 0, 0, 0, 2, 0, 0,
+    0, 0, 0, 0, 0, 0, 0, 0, 0, 0, 0, 0, 0, 1, 0, 0, 0, 0, 0, 0, 0, 0, 0, 0, 0, 0, 0, 0, 0, 4, 0, 0,
+    0, 0, 0, 0, 0, 8, 0, 0, 0, 0, 0, 0, 1, 12, 0, 0, 0, 0, 0, 0, 0, 5, 255, 255, 255, 255, 255,
+    255, 255, 250,
+];
+
 fn name(alloc: Global, text: &str) -> Result<Name, AllocError>
     ensures { IfOk result (λ n. n ≡ text.now) }
 {
@@ -83,13 +97,13 @@ fn attribute(alloc: Global, text: &str, value: i32) -> Result<DocAtt, AllocError
     })
 }
 
-fn variable(alloc: Global, text: &str, dims: [u32; 2], values: Values) -> Result<DocVar, AllocError>
-    ensures { IfOk result (λ v. v ≡ variable_of text.now dims values) }
+fn variable(alloc: Global, text: &str, dims: &[u32], values: Values) -> Result<DocVar, AllocError>
+    ensures { IfOk result (λ v. v ≡ variable_of text.now dims.now values) }
 {
     Ok(DocVar {
         name: name(alloc, text)?,
         dims: DimIds {
-            items: Vec::from_array(alloc, dims)?,
+            items: dims.to_vec(alloc)?,
         },
         values,
     })
@@ -133,7 +147,7 @@ fn upwards(alloc: Global) -> Result<DocVar, AllocError>
     variable(
         alloc,
         "b",
-        [0, 1],
+        &[0, 1],
         bytes(alloc, [1, 2, 3, 4, 5, 6, 7, 8, 9])?,
     )
 }
@@ -144,7 +158,7 @@ fn downwards(alloc: Global) -> Result<DocVar, AllocError>
     variable(
         alloc,
         "c",
-        [0, 1],
+        &[0, 1],
         bytes(alloc, [-1, -2, -3, -4, -5, -6, -7, -8, -9])?,
     )
 }
@@ -164,6 +178,35 @@ fn two_record_variables(alloc: Global) -> Result<NcDoc, AllocError>
         alloc,
         Vec::from_array(alloc, [upwards(alloc)?, downwards(alloc)?])?,
     )
+}
+
+#[tactic(auto, unfolding(crate::specs::Samples::without_records))]
+fn without_records(alloc: Global) -> Result<NcDoc, AllocError>
+    ensures { IfOk result (λ doc. doc ≡ without_records) }
+{
+    let sums = Values::Long(Longs {
+        items: Vec::from_array(alloc, [5, -6])?,
+    });
+    let none = Values::Int(Ints {
+        items: Vec::new(alloc),
+    });
+    let dims = [dimension(alloc, "t", 0)?, dimension(alloc, "n", 2)?];
+    let vars = [
+        variable(alloc, "S", &[1], sums)?,
+        variable(alloc, "r", &[0, 1], none)?,
+    ];
+    Ok(NcDoc {
+        records: 0,
+        dims: DocDims {
+            items: Vec::from_array(alloc, dims)?,
+        },
+        atts: DocAtts {
+            items: Vec::from_array(alloc, [attribute(alloc, "fill_value", -1)?])?,
+        },
+        vars: DocVars {
+            items: Vec::from_array(alloc, vars)?,
+        },
+    })
 }
 
 fn mesh_dims(alloc: Global) -> Result<DocDims, AllocError>
@@ -199,8 +242,8 @@ fn smallest_cubed_sphere(alloc: Global) -> Result<NcDoc, AllocError>
         ],
     )?;
     let vars = [
-        variable(alloc, "coord", [0, 1], coord)?,
-        variable(alloc, "connect1", [4, 5], connect)?,
+        variable(alloc, "coord", &[0, 1], coord)?,
+        variable(alloc, "connect1", &[4, 5], connect)?,
     ];
     Ok(NcDoc {
         records: 0,
@@ -270,5 +313,14 @@ fn writes_no_pieces(rt: HostRuntime) -> Result<(), Fail> {
     let doc = no_pieces(rt.alloc())?;
     let file = encode(rt.alloc(), &doc).ok().ok_or("there is memory")?;
     assert_eq!(rt; file.as_slice(), NO_PIECES.as_slice());
+    Ok(())
+}
+
+#[test]
+#[tactic(auto, using(crate::proofs::Samples::long_form))]
+fn writes_without_records(rt: HostRuntime) -> Result<(), Fail> {
+    let doc = without_records(rt.alloc())?;
+    let file = encode(rt.alloc(), &doc).ok().ok_or("there is memory")?;
+    assert_eq!(rt; file.as_slice(), WITHOUT_RECORDS.as_slice());
     Ok(())
 }
