@@ -3,3 +3,5 @@ pub mod PartLengths
 pub mod Records
 pub mod Vsizes
 pub mod Places
+pub mod Standing
+mod Samples

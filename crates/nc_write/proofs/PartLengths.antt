@@ -1,5 +1,5 @@
 -- How long the parts of a file are.
-use Rattle.std.proofs.Common.{zero, suc, ◌≡◌, ◌<◌, ◌≤◌, ◌+◌, ◌*◌, ◌^◌, ℕ, ℤ, List, [], ◌∷◌, ◌++◌, Bool, true, false, length, map, replicate, refl, sym, ap, subst, ◌∙◌, arith, length-append, nat_lt, if◌then◌else◌, ◌==◌}
+use Rattle.std.proofs.Common.{zero, suc, ◌≡◌, ◌+◌, ◌*◌, ℕ, ℤ, List, [], ◌∷◌, ◌++◌, true, false, length, replicate, refl, ap, ◌∙◌, arith, length-append, nat_lt, if◌then◌else◌, ◌==◌}
 use Rattle.std.proofs.lemmas.List.{length-replicate}
 use Rattle.std.proofs.lemmas.List.Sums.{sum_by-cons}
 use Rattle.std.proofs.Math.Nat.{mul-add, mul-suc}
@@ -12,7 +12,7 @@ use Rattle.nc_write.specs.declared.DocAtt.{DocAtt}
 use Rattle.nc_write.specs.declared.DocVar.{DocVar}
 use Rattle.nc_write.specs.declared.NcKind.{NcKind}
 use Rattle.nc_write.specs.declared.NcKind.TheVariants as kinds
-use Rattle.nc_write.specs.Kinds.{value, size_of, type_number, bits_of}
+use Rattle.nc_write.specs.Kinds.{value, size_of, type_number}
 use Rattle.nc_write.specs.Widths.{width, begin_width, number, offset, code}
 use Rattle.nc_write.specs.Extents.{pad_len, rounded}
 use Rattle.nc_write.specs.File.{name, padded, tagged, dimension, attribute, vsize, vsize_limit, shape, variable, variables, begin_of, fixed_len, first_len, fixed_total, piece_len, kind_of, header, header_len, version_of, is_long}

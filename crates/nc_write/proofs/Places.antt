@@ -1,10 +1,9 @@
 -- How many bytes the data takes, and where it ends.
-use Rattle.std.proofs.Common.{◌≡◌, ◌≢◌, ◌<◌, ◌≤◌, ◌+◌, ◌*◌, ◌-◌, ◌==◌, ℕ, ℤ, zero, suc, List, [], ◌∷◌, ◌++◌, All, Bool, true, false, if◌then◌else◌, length, map, take, drop, get_or, slice_index, refl, sym, ap, ◌∙◌, arith, add-one, length-append, length-drop}
-use Rattle.std.proofs.Math.Nat.{mul_comm, mul_assoc, mul-suc, suc-mul, mul-le-mul_right, one-mul}
-use Rattle.std.proofs.lemmas.Bool.{cases_lt}
+use Rattle.std.proofs.Common.{◌≡◌, ◌≢◌, ◌<◌, ◌≤◌, ◌+◌, ◌*◌, ◌==◌, ℕ, ℤ, zero, suc, List, [], ◌∷◌, All, Bool, true, false, if◌then◌else◌, length, take, drop, get_or, slice_index, refl, sym, ap, ◌∙◌, arith, add-one, length-append, length-drop}
+use Rattle.std.proofs.Math.Nat.{mul-suc, suc-mul, mul-le-mul_right, one-mul}
 use Rattle.std.proofs.lemmas.Bool.Decides.{nat_tests}
 use Rattle.std.proofs.lemmas.List.{get_or-map, length-map, length-take-le}
-use Rattle.std.proofs.lemmas.List.Elements.{All-head, All-tail, All-weaker, All-drop}
+use Rattle.std.proofs.lemmas.List.Elements.{All-head, All-tail}
 use Rattle.std.proofs.lemmas.List.Sums.{sum_by-cons}
 use Rattle.std.proofs.lemmas.List.Concat.{length-flat_map}
 use Rattle.std.specs.List.{flat_map, sum_by, range_with_len}
@@ -13,7 +12,7 @@ use Rattle.nc_write.specs.declared.DocVar.{DocVar}
 use Rattle.nc_write.specs.declared.NcKind.{NcKind}
 use Rattle.nc_write.specs.Kinds.{size_of, value}
 use Rattle.nc_write.specs.Extents.{product_of, has_records, piece_count, rounded, share_of}
-use Rattle.nc_write.specs.File.{lens_of, numbers_of, kind_of, is_record, pieces_of, has_several, piece_len, fixed_len, record_len, first_len, fixed_total, step_of, padded, padded_if, value_bytes, fixed_data, record_numbers, record_data, record_of, data_of, header, header_len, file_of}
+use Rattle.nc_write.specs.File.{lens_of, numbers_of, kind_of, is_record, has_several, piece_len, fixed_len, record_len, first_len, fixed_total, step_of, padded, padded_if, value_bytes, fixed_data, record_numbers, record_data, record_of, data_of, header, header_len, file_of}
 use Rattle.nc_write.specs.Form.{full_lens, IsWellFormed, HasItsValues}
 use Rattle.nc_write.proofs.PartLengths.{length_value, length_padded, length_header_any}
 use Rattle.nc_write.proofs.Records.{flat_range_more}
@@ -116,11 +115,20 @@ flat_sum f g P h [] all = refl
 flat_sum f g P h (x ∷ xs) all =
     omega (arith, length-append (f x) (flat_map f xs), h x (All-head P x xs all), flat_sum f g P h xs (All-tail P x xs all), sum_by-cons g x xs)
 
+-- the data before the records, of some variables
+pub length_fixed_all : (doc : NcDoc) (vs : List DocVar) → All (HasItsValues doc) vs → length (flat_map (fixed_data doc) vs) ≡ sum_by (fixed_len doc) vs
+length_fixed_all doc vs all = flat_sum (fixed_data doc) (fixed_len doc) (HasItsValues doc) (fixed_data_fits doc) vs all
+
+-- what a record has of some variables
+pub length_record_all : (doc : NcDoc) (r : ℕ) → r < doc.records → (vs : List DocVar) → All (HasItsValues doc) vs → length (flat_map (record_data doc r) vs) ≡ sum_by (record_len doc) vs
+length_record_all doc r lt vs all = flat_sum (record_data doc r) (record_len doc) (HasItsValues doc) (record_data_fits doc r lt) vs all
+
 length_record_of : (doc : NcDoc) → All (HasItsValues doc) doc.vars → (r : ℕ) → r < doc.records → length (record_of doc r) ≡ step_of doc
 unfolding record_of
-length_record_of doc all r lt = flat_sum (record_data doc r) (record_len doc) (HasItsValues doc) (record_data_fits doc r lt) doc.vars all
+length_record_of doc all r lt = length_record_all doc r lt doc.vars all
 
-length_records : (doc : NcDoc) → All (HasItsValues doc) doc.vars → (n : ℕ) → n ≤ doc.records → length (flat_map (record_of doc) (range_with_len 0 n)) ≡ n * step_of doc
+-- the first n records
+pub length_records : (doc : NcDoc) → All (HasItsValues doc) doc.vars → (n : ℕ) → n ≤ doc.records → length (flat_map (record_of doc) (range_with_len 0 n)) ≡ n * step_of doc
 length_records doc all zero le = omega arith
 length_records doc all (suc n) le =
     ap (λ k. length (flat_map (record_of doc) (range_with_len 0 k))) (sym (add-one n))
@@ -140,7 +148,7 @@ length_data_of doc all =
     omega (
       arith,
       length-append (flat_map (fixed_data doc) doc.vars) (flat_map (record_of doc) (range_with_len 0 doc.records)),
-      flat_sum (fixed_data doc) (fixed_len doc) (HasItsValues doc) (fixed_data_fits doc) doc.vars all,
+      length_fixed_all doc doc.vars all,
       length_records doc all doc.records (omega arith),
     )
 

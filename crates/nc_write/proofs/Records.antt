@@ -1,5 +1,5 @@
 -- Records: how many values one has, and the records one after another.
-use Rattle.std.proofs.Common.{◌≡◌, ◌<◌, ◌≤◌, ◌+◌, ◌*◌, ◌/◌, ◌-◌, ℕ, zero, suc, List, [], ◌∷◌, ◌++◌, Bool, true, false, if◌then◌else◌, length, take, drop, refl, sym, ap, ◌∙◌, append_assoc, append-nil, add-one, arith}
+use Rattle.std.proofs.Common.{◌≡◌, ◌<◌, ◌+◌, ◌*◌, ◌/◌, ℕ, zero, suc, List, ◌++◌, true, if◌then◌else◌, length, sym, ap, ◌∙◌, append_assoc, append-nil, add-one, arith}
 use Rattle.std.proofs.Math.Nat.{mul-div_cancel, mul_comm}
 use Rattle.std.specs.List.{flat_map, range_with_len}
 use Rattle.nc_write.specs.declared.NcDoc.{NcDoc}

@@ -16,7 +16,7 @@ use Rattle.nc_write.specs.Extents.{pad_len, rounded, has_records, piece_count, s
 
 -- Values.
 
--- the type that values are written in
+-- the type that values are written in: BYTE, INT or INT64
 abbrev pub kind_of : Values → NcKind
 kind_of (Byte zs) = kinds.Byte
 kind_of (Int zs) = kinds.Int
@@ -28,6 +28,7 @@ numbers_of (Byte zs) = zs
 numbers_of (Int zs) = zs
 numbers_of (Long zs) = zs
 
+-- values of 64 bits, which only version 5 has (CDF-5)
 abbrev pub are_long : Values → Bool
 are_long (Byte zs) = false
 are_long (Int zs) = false
@@ -46,6 +47,7 @@ version_of doc = if list_any is_long doc.vars then 5 else 2
 abbrev pub lens_of : NcDoc → List ℕ
 lens_of doc = map (λ d. d.len) doc.dims
 
+-- a variable over the record dimension
 abbrev pub is_record : NcDoc → DocVar → Bool
 is_record doc v = has_records (lens_of doc) v.dims
 
@@ -53,7 +55,8 @@ is_record doc v = has_records (lens_of doc) v.dims
 abbrev pub pieces_of : NcDoc → DocVar → ℕ
 pieces_of doc v = if is_record doc v then doc.records else 1
 
--- exactly one record variable: its records are not padded
+-- whether records are padded: they are, unless there is exactly one record variable (netCDF classic format
+-- specification, "Note on padding")
 unfoldable pub has_several : NcDoc → Bool
 has_several doc = not (count_by (is_record doc) doc.vars == 1)
 
@@ -77,13 +80,13 @@ first_len doc v = if doc.records == 0 then 0 else record_len doc v
 abbrev pub fixed_total : NcDoc → ℕ
 fixed_total doc = sum_by (fixed_len doc) doc.vars
 
--- from one record to the next
+-- the bytes from one record to the next
 abbrev pub step_of : NcDoc → ℕ
 step_of doc = sum_by (record_len doc) doc.vars
 
 -- The header.
 
--- bytes with their padding to a multiple of 4
+-- bytes, filled up to a multiple of 4
 abbrev pub padded : ℕ → List ℕ → List ℕ
 padded fill bytes = bytes ++ replicate (pad_len (length bytes)) fill
 
@@ -96,6 +99,7 @@ unfoldable pub tagged : ℕ → ℕ → ℕ → List ℕ → List ℕ
 tagged version tag zero items = code 0 ++ number version 0
 tagged version tag (suc n) items = code tag ++ number version (suc n) ++ items
 
+-- a dimension: its name and its length
 unfoldable pub dimension : ℕ → DocDim → List ℕ
 dimension version d = name version d.name ++ number version d.len
 
@@ -103,7 +107,8 @@ dimension version d = name version d.name ++ number version d.len
 unfoldable pub attribute : ℕ → DocAtt → List ℕ
 attribute version a = name version a.name ++ code (type_number kinds.Int) ++ number version 1 ++ value kinds.Int a.value
 
--- the greatest multiple of 4 that a vsize holds
+-- the greatest multiple of 4 that a vsize holds: of 32 bits without sign (netCDF classic format specification),
+-- or of 64 bits with sign (this project's own)
 abbrev pub vsize_limit : ℕ → ℕ
 vsize_limit version = if version == 5 then 9223372036854775804 else 4294967292
 
@@ -124,19 +129,19 @@ variable doc begin v =
     ++ vsize (version_of doc) (rounded (piece_len doc v))
     ++ offset (version_of doc) begin
 
--- where a variable begins: at fixed, the place behind the variables without the record dimension before it,
--- or at record, the place behind the first records of the record variables before it
+-- where a variable begins, of two places: the one behind the variables without the record dimension that stand
+-- before it, and the one behind the first records of the record variables before it
 abbrev pub begin_of : NcDoc → ℕ → ℕ → DocVar → ℕ
 begin_of doc fixed record_place v = if is_record doc v then record_place else fixed
 
--- each variable begins behind the data of those before it
+-- each variable begins behind the data of those of its kind that stand before it
 abbrev pub variables : NcDoc → ℕ → ℕ → List DocVar → List ℕ
 variables doc fixed record_place [] = []
 variables doc fixed record_place (v ∷ vs) =
     variable doc (begin_of doc fixed record_place v) v
     ++ variables doc (fixed + fixed_len doc v) (record_place + first_len doc v) vs
 
--- the header of a document whose data begins at a place
+-- the header of a document whose data begins at a place: magic, numrecs and three lists
 unfoldable pub header : NcDoc → ℕ → List ℕ
 header doc begin =
     0x43 ∷ 0x44 ∷ 0x46 ∷ version_of doc ∷ []
@@ -145,7 +150,7 @@ header doc begin =
     ++ tagged (version_of doc) 12 (length doc.atts) (flat_map (attribute (version_of doc)) doc.atts)
     ++ tagged (version_of doc) 11 (length doc.vars) (variables doc begin (begin + fixed_total doc) doc.vars)
 
--- the header is as long wherever the data begins
+-- the length of the header, which is the same wherever the data begins
 unfoldable pub header_len : NcDoc → ℕ
 header_len doc = length (header doc 0)
 

@@ -6,6 +6,8 @@ mod lengths;
 mod lists;
 mod sizes;
 mod spell;
+#[cfg(test)]
+mod tests;
 mod writing;
 
 pub use lists::{Bytes8, DimIds, DocAtts, DocDims, DocVars, Name};

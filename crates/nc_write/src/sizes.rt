@@ -163,11 +163,8 @@ fn record_len(doc: &NcDoc, several: bool, var: &DocVar) -> u64
     if !is_record_var(doc, var) {
         return 0;
     }
-    if several {
-        rounded_piece(doc, var)
-    } else {
-        piece_len(doc, var)
-    }
+    let piece = piece_len(doc, var);
+    if several { rounded(piece) } else { piece }
 }
 
 /// What a variable adds to the first record, which there is only with records.

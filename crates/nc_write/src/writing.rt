@@ -16,7 +16,7 @@ const MAX_FILE: u64 = 2_147_483_647;
 /// The length of the one file of a document, in bytes, from the lengths of its lists.
 pub fn length_of(doc: &NcDoc) -> u64
     requires { IsWellFormed doc.now }
-    ensures { result ≡ length (file_of doc.now) }
+    ensures len { result ≡ length (file_of doc.now) }
 {
     plus(header_len(version_of(doc), doc), data_len(doc))
 }

@@ -1,6 +1,6 @@
-use Rattle.std.proofs.Common.{◌≡◌, ◌++◌, arith, ap, rules}
+use Rattle.std.proofs.Common.{◌≡◌, arith, ap}
 use Rattle.std.proofs.lemmas.Grind.{common_steps}
-use Rattle.nc_write.specs.File.{file_of, header, header_len, data_of}
+use Rattle.nc_write.specs.File.{file_of, header, header_len}
 use Rattle.nc_write.proofs.Places.{has_its_values, length_file_of, first_within}
 use Rattle.nc_write.proofs.writing.encode.Goals as goal
 

@@ -1,0 +1,326 @@
+// Files of five documents, by their bytes.
+ghost use Rattle.std.specs.Prelude.{◌≡◌, [], ◌∷◌, IfOk, codes};
+ghost use Rattle.nc_write.specs.declared.Values.TheVariants.{Byte, Int};
+ghost use Rattle.nc_write.specs.Samples.{dimension_of, attribute_of, variable_of, records_of, upwards, downwards, mesh_dims, one_record_variable, two_record_variables, without_records, smallest_cubed_sphere, no_pieces};
+
+use crate::{
+    Bytes8, DimIds, DocAtt, DocAtts, DocDim, DocDims, DocVar, DocVars, Name, NcDoc, Values, encode,
+};
+use std::alloc::{AllocError, Global};
+use std::test::*;
+use vec_exact::{Ints, Longs};
+
+// Records of 3 bytes: the variable begins at 100, and there is no padding.
+const ONE_RECORD_VARIABLE: [u8; 109] = [
+    67, 68, 70, 2, 0, 0, 0, 3, 0, 0, 0, 10, 0, 0, 0, 2, 0, 0, 0, 1, 116, 0, 0, 0, 0, 0, 0, 0, 0, 0,
+    0, 1, 107, 0, 0, 0, 0, 0, 0, 3, 0, 0, 0, 0, 0, 0, 0, 0, 0, 0, 0, 11, 0, 0, 0, 1, 0, 0, 0, 1,
+    98, 0, 0, 0, 0, 0, 0, 2, 0, 0, 0, 0, 0, 0, 0, 1, 0, 0, 0, 0, 0, 0, 0, 0, 0, 0, 0, 1, 0, 0, 0,
+    4, 0, 0, 0, 0, 0, 0, 0, 100, 1, 2, 3, 4, 5, 6, 7, 8, 9,
+];
+
+// Records of two times 4 bytes: the variables begin at 144 and 148.
+const TWO_RECORD_VARIABLES: [u8; 168] = [
+    67, 68, 70, 2, 0, 0, 0, 3, 0, 0, 0, 10, 0, 0, 0, 2, 0, 0, 0, 1, 116, 0, 0, 0, 0, 0, 0, 0, 0, 0,
+    0, 1, 107, 0, 0, 0, 0, 0, 0, 3, 0, 0, 0, 0, 0, 0, 0, 0, 0, 0, 0, 11, 0, 0, 0, 2, 0, 0, 0, 1,
+    98, 0, 0, 0, 0, 0, 0, 2, 0, 0, 0, 0, 0, 0, 0, 1, 0, 0, 0, 0, 0, 0, 0, 0, 0, 0, 0, 1, 0, 0, 0,
+    4, 0, 0, 0, 0, 0, 0, 0, 144, 0, 0, 0, 1, 99, 0, 0, 0, 0, 0, 0, 2, 0, 0, 0, 0, 0, 0, 0, 1, 0, 0,
+    0, 0, 0, 0, 0, 0, 0, 0, 0, 1, 0, 0, 0, 4, 0, 0, 0, 0, 0, 0, 0, 148, 1, 2, 3, 129, 255, 254,
+    253, 129, 4, 5, 6, 129, 252, 251, 250, 129, 7, 8, 9, 129, 249, 248, 247, 129,
+];
+
+// The mesh file of one face a panel.
+const SMALLEST_CUBED_SPHERE: [u8; 440] = [
+    67, 68, 70, 2, 0, 0, 0, 0, 0, 0, 0, 10, 0, 0, 0, 6, 0, 0, 0, 7, 110, 117, 109, 95, 100, 105,
+    109, 0, 0, 0, 0, 3, 0, 0, 0, 9, 110, 117, 109, 95, 110, 111, 100, 101, 115, 0, 0, 0, 0, 0, 0,
+    8, 0, 0, 0, 8, 110, 117, 109, 95, 101, 108, 101, 109, 0, 0, 0, 6, 0, 0, 0, 10, 110, 117, 109,
+    95, 101, 108, 95, 98, 108, 107, 0, 0, 0, 0, 0, 1, 0, 0, 0, 14, 110, 117, 109, 95, 101, 108, 95,
+    105, 110, 95, 98, 108, 107, 49, 0, 0, 0, 0, 0, 6, 0, 0, 0, 15, 110, 117, 109, 95, 110, 111,
+    100, 95, 112, 101, 114, 95, 101, 108, 49, 0, 0, 0, 0, 4, 0, 0, 0, 0, 0, 0, 0, 0, 0, 0, 0, 11,
+    0, 0, 0, 2, 0, 0, 0, 5, 99, 111, 111, 114, 100, 0, 0, 0, 0, 0, 0, 2, 0, 0, 0, 0, 0, 0, 0, 1, 0,
+    0, 0, 0, 0, 0, 0, 0, 0, 0, 0, 4, 0, 0, 0, 96, 0, 0, 0, 0, 0, 0, 0, 248, 0, 0, 0, 8, 99, 111,
+    110, 110, 101, 99, 116, 49, 0, 0, 0, 2, 0, 0, 0, 4, 0, 0, 0, 5, 0, 0, 0, 0, 0, 0, 0, 0, 0, 0,
+    0, 4, 0, 0, 0, 96, 0, 0, 0, 0, 0, 0, 1, 88, 255, 255, 255, 255, 255, 255, 255, 255, 255, 255,
+    255, 255, 255, 255, 255, 255, 0, 0, 0, 1, 0, 0, 0, 1, 0, 0, 0, 1, 0, 0, 0, 1, 255, 255, 255,
+    255, 255, 255, 255, 255, 0, 0, 0, 1, 0, 0, 0, 1, 255, 255, 255, 255, 255, 255, 255, 255, 0, 0,
+    0, 1, 0, 0, 0, 1, 255, 255, 255, 255, 0, 0, 0, 1, 255, 255, 255, 255, 0, 0, 0, 1, 255, 255,
+    255, 255, 0, 0, 0, 1, 255, 255, 255, 255, 0, 0, 0, 1, 0, 0, 0, 5, 0, 0, 0, 7, 0, 0, 0, 8, 0, 0,
+    0, 6, 0, 0, 0, 7, 0, 0, 0, 3, 0, 0, 0, 4, 0, 0, 0, 8, 0, 0, 0, 3, 0, 0, 0, 1, 0, 0, 0, 2, 0, 0,
+    0, 4, 0, 0, 0, 1, 0, 0, 0, 5, 0, 0, 0, 6, 0, 0, 0, 2, 0, 0, 0, 6, 0, 0, 0, 8, 0, 0, 0, 4, 0, 0,
+    0, 2, 0, 0, 0, 1, 0, 0, 0, 3, 0, 0, 0, 7, 0, 0, 0, 5,
+];
+
+// An overlap file without a piece.
+const NO_PIECES: [u8; 104] = [
+    67, 68, 70, 2, 0, 0, 0, 0, 0, 0, 0, 0, 0, 0, 0, 0, 0, 0, 0, 12, 0, 0, 0, 3, 0, 0, 0, 7, 102,
+    97, 99, 101, 115, 95, 97, 0, 0, 0, 0, 4, 0, 0, 0, 1, 0, 0, 0, 1, 0, 0, 0, 7, 102, 97, 99, 101,
+    115, 95, 98, 0, 0, 0, 0, 4, 0, 0, 0, 1, 0, 0, 0, 1, 0, 0, 0, 6, 112, 105, 101, 99, 101, 115, 0,
+    0, 0, 0, 0, 4, 0, 0, 0, 1, 0, 0, 0, 0, 0, 0, 0, 0, 0, 0, 0, 0,
+];
+
+// Version 5 without a record: the variables begin at 252 and 268.
+const WITHOUT_RECORDS: [u8; 268] = [
+    67, 68, 70, 5, 0, 0, 0, 0, 0, 0, 0, 0, 0, 0, 0, 10, 0, 0, 0, 0, 0, 0, 0, 2, 0, 0, 0, 0, 0, 0,
+    0, 1, 116, 0, 0, 0, 0, 0, 0, 0, 0, 0, 0, 0, 0, 0, 0, 0, 0, 0, 0, 1, 110, 0, 0, 0, 0, 0, 0, 0,
+    0, 0, 0, 2, 0, 0, 0, 12, 0, 0, 0, 0, 0, 0, 0, 1, 0, 0, 0, 0, 0, 0, 0, 10, 102, 105, 108, 108,
+    95, 118, 97, 108, 117, 101, 0, 0, 0, 0, 0, 4, 0, 0, 0, 0, 0, 0, 0, 1, 255, 255, 255, 255, 0, 0,
+    0, 11, 0, 0, 0, 0, 0, 0, 0, 2, 0, 0, 0, 0, 0, 0, 0, 1, 83, 0, 0, 0, 0, 0, 0, 0, 0, 0, 0, 1, 0,
+    0, 0, 0, 0, 0, 0, 1, 0, 0, 0, 0, 0, 0, 0, 0, 0, 0, 0, 0, 0, 0, 0, 10, 0, 0, 0, 0, 0, 0, 0, 16,
+    0, 0, 0, 0, 0, 0, 0, 252, 0, 0, 0, 0, 0, 0, 0, 1, 114, 0, 0, 0, 0, 0, 0, 0, 0, 0, 0, 2, 0, 0,
+    0, 0, 0, 0, 0, 0, 0, 0, 0, 0, 0, 0, 0, 1, 0, 0, 0, 0, 0, 0, 0, 0, 0, 0, 0, 0, 0, 0, 0, 4, 0, 0,
+    0, 0, 0, 0, 0, 8, 0, 0, 0, 0, 0, 0, 1, 12, 0, 0, 0, 0, 0, 0, 0, 5, 255, 255, 255, 255, 255,
+    255, 255, 250,
+];
+
+fn name(alloc: Global, text: &str) -> Result<Name, AllocError>
+    ensures { IfOk result (λ n. n ≡ text.now) }
+{
+    Ok(Name {
+        items: text.as_bytes().to_vec(alloc)?,
+    })
+}
+
+fn dimension(alloc: Global, text: &str, len: u32) -> Result<DocDim, AllocError>
+    ensures { IfOk result (λ d. d ≡ dimension_of text.now len) }
+{
+    Ok(DocDim {
+        name: name(alloc, text)?,
+        len,
+    })
+}
+
+fn attribute(alloc: Global, text: &str, value: i32) -> Result<DocAtt, AllocError>
+    ensures { IfOk result (λ a. a ≡ attribute_of text.now value) }
+{
+    Ok(DocAtt {
+        name: name(alloc, text)?,
+        value,
+    })
+}
+
+fn variable(alloc: Global, text: &str, dims: &[u32], values: Values) -> Result<DocVar, AllocError>
+    ensures { IfOk result (λ v. v ≡ variable_of text.now dims.now values) }
+{
+    Ok(DocVar {
+        name: name(alloc, text)?,
+        dims: DimIds {
+            items: dims.to_vec(alloc)?,
+        },
+        values,
+    })
+}
+
+fn bytes(alloc: Global, numbers: [i8; 9]) -> Result<Values, AllocError>
+    ensures { IfOk result (λ values. values ≡ Byte numbers) }
+{
+    Ok(Values::Byte(Bytes8 {
+        items: Vec::from_array(alloc, numbers)?,
+    }))
+}
+
+fn ints(alloc: Global, numbers: [i32; 24]) -> Result<Values, AllocError>
+    ensures { IfOk result (λ values. values ≡ Int numbers) }
+{
+    Ok(Values::Int(Ints {
+        items: Vec::from_array(alloc, numbers)?,
+    }))
+}
+
+fn with_records(alloc: Global, vars: Vec<DocVar>) -> Result<NcDoc, AllocError>
+    ensures { IfOk result (λ doc. doc ≡ records_of vars.items) }
+{
+    let dims = [dimension(alloc, "t", 0)?, dimension(alloc, "k", 3)?];
+    Ok(NcDoc {
+        records: 3,
+        dims: DocDims {
+            items: Vec::from_array(alloc, dims)?,
+        },
+        atts: DocAtts {
+            items: Vec::new(alloc),
+        },
+        vars: DocVars { items: vars },
+    })
+}
+
+fn upwards(alloc: Global) -> Result<DocVar, AllocError>
+    ensures { IfOk result (λ v. v ≡ variable_of (codes "b") (0 ∷ 1 ∷ []) (Byte upwards)) }
+{
+    variable(
+        alloc,
+        "b",
+        &[0, 1],
+        bytes(alloc, [1, 2, 3, 4, 5, 6, 7, 8, 9])?,
+    )
+}
+
+fn downwards(alloc: Global) -> Result<DocVar, AllocError>
+    ensures { IfOk result (λ v. v ≡ variable_of (codes "c") (0 ∷ 1 ∷ []) (Byte downwards)) }
+{
+    variable(
+        alloc,
+        "c",
+        &[0, 1],
+        bytes(alloc, [-1, -2, -3, -4, -5, -6, -7, -8, -9])?,
+    )
+}
+
+#[tactic(auto, unfolding(crate::specs::Samples::one_record_variable))]
+fn one_record_variable(alloc: Global) -> Result<NcDoc, AllocError>
+    ensures { IfOk result (λ doc. doc ≡ one_record_variable) }
+{
+    with_records(alloc, Vec::from_array(alloc, [upwards(alloc)?])?)
+}
+
+#[tactic(auto, unfolding(crate::specs::Samples::two_record_variables))]
+fn two_record_variables(alloc: Global) -> Result<NcDoc, AllocError>
+    ensures { IfOk result (λ doc. doc ≡ two_record_variables) }
+{
+    with_records(
+        alloc,
+        Vec::from_array(alloc, [upwards(alloc)?, downwards(alloc)?])?,
+    )
+}
+
+#[tactic(auto, unfolding(crate::specs::Samples::without_records))]
+fn without_records(alloc: Global) -> Result<NcDoc, AllocError>
+    ensures { IfOk result (λ doc. doc ≡ without_records) }
+{
+    let sums = Values::Long(Longs {
+        items: Vec::from_array(alloc, [5, -6])?,
+    });
+    let none = Values::Int(Ints {
+        items: Vec::new(alloc),
+    });
+    let dims = [dimension(alloc, "t", 0)?, dimension(alloc, "n", 2)?];
+    let vars = [
+        variable(alloc, "S", &[1], sums)?,
+        variable(alloc, "r", &[0, 1], none)?,
+    ];
+    Ok(NcDoc {
+        records: 0,
+        dims: DocDims {
+            items: Vec::from_array(alloc, dims)?,
+        },
+        atts: DocAtts {
+            items: Vec::from_array(alloc, [attribute(alloc, "fill_value", -1)?])?,
+        },
+        vars: DocVars {
+            items: Vec::from_array(alloc, vars)?,
+        },
+    })
+}
+
+fn mesh_dims(alloc: Global) -> Result<DocDims, AllocError>
+    ensures { IfOk result (λ dims. dims ≡ mesh_dims) }
+{
+    let dims = [
+        dimension(alloc, "num_dim", 3)?,
+        dimension(alloc, "num_nodes", 8)?,
+        dimension(alloc, "num_elem", 6)?,
+        dimension(alloc, "num_el_blk", 1)?,
+        dimension(alloc, "num_el_in_blk1", 6)?,
+        dimension(alloc, "num_nod_per_el1", 4)?,
+    ];
+    Ok(DocDims {
+        items: Vec::from_array(alloc, dims)?,
+    })
+}
+
+#[tactic(auto, unfolding(crate::specs::Samples::smallest_cubed_sphere))]
+fn smallest_cubed_sphere(alloc: Global) -> Result<NcDoc, AllocError>
+    ensures { IfOk result (λ doc. doc ≡ smallest_cubed_sphere) }
+{
+    let coord = ints(
+        alloc,
+        [
+            -1, -1, -1, -1, 1, 1, 1, 1, -1, -1, 1, 1, -1, -1, 1, 1, -1, 1, -1, 1, -1, 1, -1, 1,
+        ],
+    )?;
+    let connect = ints(
+        alloc,
+        [
+            5, 7, 8, 6, 7, 3, 4, 8, 3, 1, 2, 4, 1, 5, 6, 2, 6, 8, 4, 2, 1, 3, 7, 5,
+        ],
+    )?;
+    let vars = [
+        variable(alloc, "coord", &[0, 1], coord)?,
+        variable(alloc, "connect1", &[4, 5], connect)?,
+    ];
+    Ok(NcDoc {
+        records: 0,
+        dims: mesh_dims(alloc)?,
+        atts: DocAtts {
+            items: Vec::new(alloc),
+        },
+        vars: DocVars {
+            items: Vec::from_array(alloc, vars)?,
+        },
+    })
+}
+
+#[tactic(auto, unfolding(crate::specs::Samples::no_pieces))]
+fn no_pieces(alloc: Global) -> Result<NcDoc, AllocError>
+    ensures { IfOk result (λ doc. doc ≡ no_pieces) }
+{
+    let atts = [
+        attribute(alloc, "faces_a", 1)?,
+        attribute(alloc, "faces_b", 1)?,
+        attribute(alloc, "pieces", 0)?,
+    ];
+    Ok(NcDoc {
+        records: 0,
+        dims: DocDims {
+            items: Vec::new(alloc),
+        },
+        atts: DocAtts {
+            items: Vec::from_array(alloc, atts)?,
+        },
+        vars: DocVars {
+            items: Vec::new(alloc),
+        },
+    })
+}
+
+#[test]
+#[tactic(auto, using(crate::proofs::Samples::one_form))]
+fn writes_one_record_variable(rt: HostRuntime) -> Result<(), Fail> {
+    let doc = one_record_variable(rt.alloc())?;
+    let file = encode(rt.alloc(), &doc).ok().ok_or("there is memory")?;
+    assert_eq!(rt; file.as_slice(), ONE_RECORD_VARIABLE.as_slice());
+    Ok(())
+}
+
+#[test]
+#[tactic(auto, using(crate::proofs::Samples::two_form))]
+fn writes_two_record_variables(rt: HostRuntime) -> Result<(), Fail> {
+    let doc = two_record_variables(rt.alloc())?;
+    let file = encode(rt.alloc(), &doc).ok().ok_or("there is memory")?;
+    assert_eq!(rt; file.as_slice(), TWO_RECORD_VARIABLES.as_slice());
+    Ok(())
+}
+
+#[test]
+#[tactic(auto, using(crate::proofs::Samples::mesh_form))]
+fn writes_smallest_cubed_sphere(rt: HostRuntime) -> Result<(), Fail> {
+    let doc = smallest_cubed_sphere(rt.alloc())?;
+    let file = encode(rt.alloc(), &doc).ok().ok_or("there is memory")?;
+    assert_eq!(rt; file.as_slice(), SMALLEST_CUBED_SPHERE.as_slice());
+    Ok(())
+}
+
+#[test]
+#[tactic(auto, using(crate::proofs::Samples::none_form))]
+fn writes_no_pieces(rt: HostRuntime) -> Result<(), Fail> {
+    let doc = no_pieces(rt.alloc())?;
+    let file = encode(rt.alloc(), &doc).ok().ok_or("there is memory")?;
+    assert_eq!(rt; file.as_slice(), NO_PIECES.as_slice());
+    Ok(())
+}
+
+#[test]
+#[tactic(auto, using(crate::proofs::Samples::long_form))]
+fn writes_without_records(rt: HostRuntime) -> Result<(), Fail> {
+    let doc = without_records(rt.alloc())?;
+    let file = encode(rt.alloc(), &doc).ok().ok_or("there is memory")?;
+    assert_eq!(rt; file.as_slice(), WITHOUT_RECORDS.as_slice());
+    Ok(())
+}
