@@ -16,3 +16,6 @@ pub use mem_files::{MemFiles, Torn};
 pub use mem_sink::MemSink;
 pub use sink::Sink;
 pub use steady::{SteadyFiles, SteadySink};
+
+#[cfg(test)]
+mod tests;
