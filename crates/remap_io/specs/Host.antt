@@ -1,5 +1,5 @@
--- What is told of the real files: counts, and nothing of what they hold.
-use Rattle.std.specs.Prelude.{ℕ}
+-- What is told of the real files and writers: counts, and nothing of what files hold.
+use Rattle.std.specs.Prelude.{ℕ, List, Option}
 use Rattle.remap_io.specs.Causes.{held_sum}
 
 -- the counts of a `HostFiles`
@@ -12,3 +12,8 @@ pub record HostCounts : Type 0 where
 -- the counts after a call that asked for so many bytes
 abbrev pub with_asked : HostCounts → ℕ → HostCounts
 with_asked counts asked = record counts { taken = held_sum counts.taken asked }
+
+-- a `HostSink`: the bytes that its writer holds, where they are known of such a writer, and its count
+pub record WriterState : Type 0 where
+  pub written : Option (List ℕ)
+  pub faults : ℕ

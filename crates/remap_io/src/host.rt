@@ -147,18 +147,17 @@ pub struct HostSink<W: Write> {
 }
 
 impl<W: Write> Model for HostSink<W> {
-    ghost use Rattle.std.specs.Prelude.{ℕ};
+    ghost use Rattle.remap_io.specs.Host.{WriterState};
 
-    // How many puts failed.
-    ghost Value = { ℕ };
+    ghost Value = { WriterState };
 
-    ghost view = { λ s. s.faults };
+    ghost view = { λ s. record { written = W.contents s.writer; faults = s.faults } };
 }
 
 impl<W: Write> HostSink<W> {
     /// The sink over this writer, with no fault yet.
     pub fn new(w: W) -> HostSink<W>
-        ensures { result ≡ 0 }
+        ensures { result ≡ record { written = W.contents w; faults = 0 } }
     {
         HostSink {
             writer: w,
@@ -180,15 +179,16 @@ impl<W: Write> Sink for HostSink<W> {
 
     ghost contents = { λ _. None };
 
-    ghost faults = { λ s. s };
+    ghost faults = { λ s. s.faults };
 
     ghost refusals = { λ _. 0 };
 
     fn put(&mut self, bytes: &[u8]) -> Result<(), PutErr>
-        ensures ok { OnOk result (self.new ≡ self.old) }
-        ensures failed { OnErr result (self.new ≡ held_sum self.old 1) }
+        ensures written { OnOk result (Appends self.old.written self.new.written bytes.now) }
+        ensures ok { OnOk result (self.new.faults ≡ self.old.faults) }
+        ensures failed { OnErr result (self.new.faults ≡ held_sum self.old.faults 1) }
         ensures only_failed { IsOkUnless result PutErr.Failed }
-        ensures later_faults { IsLater self.old self.new }
+        ensures later_faults { IsLater self.old.faults self.new.faults }
     {
         match write_out(&mut self.writer, bytes) {
             Ok(()) => Ok(()),
