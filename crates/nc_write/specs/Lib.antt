@@ -1,0 +1,5 @@
+pub mod Kinds
+pub mod Widths
+pub mod Extents
+pub mod File
+pub mod Form

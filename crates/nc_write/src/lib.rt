@@ -1,10 +1,17 @@
 //! netCDF documents, and the one file of each.
 #![tactic(auto)]
 
+mod data;
+mod lengths;
 mod lists;
+mod sizes;
+mod spell;
+mod writing;
 
 pub use lists::{Bytes8, DimIds, DocAtts, DocDims, DocVars, Name};
+use std::alloc::AllocError;
 use vec_exact::{Ints, Longs};
+pub use writing::{encode, length_of};
 
 /// The types of netCDF values. The first six stand in versions 1, 2 and 5, the others in version 5
 /// alone (netCDF classic format specification; CDF-5).
@@ -61,4 +68,23 @@ pub struct NcDoc {
     pub dims: DocDims,
     pub atts: DocAtts,
     pub vars: DocVars,
+}
+
+/// Why a document has no file here: the file's length in bytes passes 2,147,483,647, or memory ran
+/// out.
+#[derive(Clone, Copy, Debug, PartialEq, Eq)]
+pub enum EncFault {
+    TooLarge(u64),
+    NoMemory,
+}
+
+impl From<AllocError> for EncFault {
+    ghost use Rattle.std.specs.Prelude.{◌≡◌};
+    ghost use Rattle.nc_write.specs.declared.EncFault.TheVariants as faults;
+
+    ghost from_gives = { λ _ e. e ≡ faults.NoMemory };
+
+    fn from(_: AllocError) -> Self {
+        EncFault::NoMemory
+    }
 }

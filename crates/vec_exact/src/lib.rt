@@ -2,12 +2,33 @@
 #![tactic(auto)]
 
 mod lists;
+mod panels;
+mod rounding;
+mod steps;
+#[cfg(test)]
+mod tests;
+mod vectors;
+
+ghost use Rattle.std.specs.Prelude.{◌≡◌};
 
 pub use lists::{Faces, Ints, Longs, Nodes};
+pub use panels::Panel;
+pub use rounding::{isqrt, round_div};
+use std::alloc::AllocError;
+pub use steps::Steps;
+pub use vectors::{Sign, cross, det, dot, side};
 
 /// Memory ran out.
 #[derive(Clone, Copy, Debug, PartialEq, Eq)]
 pub struct NoMemory;
+
+impl From<AllocError> for NoMemory {
+    ghost from_gives = { λ _ e. e ≡ e };
+
+    fn from(_: AllocError) -> Self {
+        NoMemory
+    }
+}
 
 /// A triple of whole numbers: a node, a direction, or the plane of an edge.
 #[derive(Clone, Copy, Default, Debug, PartialEq, Eq)]

@@ -1,0 +1,13 @@
+pub mod Combinations
+pub mod Meetings
+pub mod Generated
+pub mod Inside
+pub mod Turned
+pub mod OnePlane
+pub mod Appended
+pub mod Passing
+pub mod Unique
+pub mod FaceEdges
+pub mod LinearForms
+pub mod Pairs
+pub mod Diagonals

@@ -1,0 +1,4 @@
+pub mod Cone
+pub mod Inside
+pub mod Ring
+pub mod Laws

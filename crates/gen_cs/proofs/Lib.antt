@@ -1,0 +1,6 @@
+mod Ranges
+mod Searches
+mod Rows
+mod NodeNumbers
+mod Corners
+pub mod Counts

@@ -1,0 +1,2 @@
+pub mod CubedSphere
+pub mod Before

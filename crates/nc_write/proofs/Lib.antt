@@ -1,0 +1,5 @@
+pub mod Lens
+pub mod PartLengths
+pub mod Records
+pub mod Vsizes
+pub mod Places

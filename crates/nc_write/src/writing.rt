@@ -1,0 +1,55 @@
+// The file of a document.
+ghost use Rattle.std.specs.Prelude.{◌≡◌, ◌≤◌, ◌<◌, ◌+◌, ◌^◌, ◌++◌, length, IfOk, OnOk, IfErr};
+ghost use Rattle.std.specs.List.{sum_by};
+ghost use Rattle.nc_write.specs.File.{file_of, header, header_len, version_of, fixed_total, first_len};
+ghost use Rattle.nc_write.specs.Form.{IsWellFormed, SaysLength};
+
+use crate::data::put_data;
+use crate::lengths::header_len;
+use crate::sizes::{data_len, plus, version_of};
+use crate::spell::{put_attributes, put_dimensions, put_number, put_variables};
+use crate::{EncFault, NcDoc};
+use std::alloc::{AllocError, Global};
+
+const MAX_FILE: u64 = 2_147_483_647;
+
+/// The length of the one file of a document, in bytes, from the lengths of its lists.
+pub fn length_of(doc: &NcDoc) -> u64
+    requires { IsWellFormed doc.now }
+    ensures { result ≡ length (file_of doc.now) }
+{
+    plus(header_len(version_of(doc), doc), data_len(doc))
+}
+
+#[tactic(auto, unfolding(crate::specs::File::header))]
+fn put_header(out: &mut Vec<u8>, version: u8, doc: &NcDoc, begin: u64) -> Result<(), AllocError>
+    requires version { version ≡ version_of doc.now }
+    requires room { begin + fixed_total doc.now + sum_by (first_len doc.now) doc.now.vars < 2 ^ 63 }
+    ensures { OnOk result (out.new.items ≡ out.old.items ++ header doc.now begin) }
+{
+    out.extend_from_slice(&[0x43, 0x44, 0x46, version])?;
+    put_number(out, version, u64::from(doc.records))?;
+    put_dimensions(out, version, &doc.dims.items)?;
+    put_attributes(out, version, &doc.atts.items)?;
+    put_variables(out, version, doc, begin)
+}
+
+/// The one file of a document: in version 5 where a variable is Long, else in version 2.
+/// `TooLarge` says the length of a file of more than 2,147,483,647 bytes.
+#[tactic(auto, unfolding(crate::specs::File::file_of))]
+pub fn encode(alloc: Global, doc: &NcDoc) -> Result<Vec<u8>, EncFault>
+    requires { IsWellFormed doc.now }
+    ensures bytes { IfOk result (λ bytes. bytes.items ≡ file_of doc.now) }
+    ensures fits { OnOk result (length (file_of doc.now) ≤ 2147483647) }
+    ensures fault { IfErr result (SaysLength (length (file_of doc.now))) }
+{
+    let len = length_of(doc);
+    if len > MAX_FILE {
+        return Err(EncFault::TooLarge(len));
+    }
+    let version = version_of(doc);
+    let mut out = Vec::with_capacity(alloc, len as usize)?;
+    put_header(&mut out, version, doc, header_len(version, doc))?;
+    put_data(&mut out, doc)?;
+    Ok(out)
+}

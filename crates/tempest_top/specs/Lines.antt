@@ -1,0 +1,16 @@
+-- The texts of the program.
+use Rattle.std.specs.Prelude.{◌≡◌, ◌⊎◌, ℕ, List, ◌++◌, length, take, codes, decimal, Option, Some, None}
+use Rattle.vec_exact.specs.declared.RawMesh.{RawMesh}
+
+-- what is put to the output for a mesh that was made
+abbrev pub mesh_text : RawMesh → List ℕ
+mesh_text raw = codes "faces " ++ decimal (length raw.faces) ++ codes " nodes " ++ decimal (length raw.nodes) ++ codes "\n"
+
+-- the line of a refusal
+abbrev pub line_of : List ℕ → List ℕ
+line_of text = codes "tempest: " ++ text ++ codes "\n"
+
+-- The line went out, or a prefix of it: less than the whole only where the cause stands.
+abbrev pub GainsLine : Option (List ℕ) → Option (List ℕ) → List ℕ → Type 0 → Type 0
+GainsLine None new line cause = new ≡ None
+GainsLine (Some held) new line cause = (new ≡ Some (held ++ line)) ⊎ (((n : ℕ) × (new ≡ Some (held ++ take n line))) × cause)

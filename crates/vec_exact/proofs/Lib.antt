@@ -1,0 +1,10 @@
+pub mod Whole
+pub mod Ring
+pub mod Signs
+pub mod Bounds
+pub mod Rounded
+pub mod Terms
+pub mod Identities
+pub mod Planes
+pub mod Cycles
+pub mod Accepted
