@@ -137,10 +137,12 @@ impl Files for MemFiles {
         ensures ok { OnOk result (self.new ≡ after_call self.old) }
         ensures absent_there { IsErrOf result FileErr.Absent →
             file_at self.old.folder name.now ≡ None }
-        ensures absent { IsErrOf result FileErr.Absent → self.new ≡ with_miss (after_call self.old) }
+        ensures absent { IsErrOf result FileErr.Absent →
+            self.new ≡ with_miss (after_call self.old) }
         ensures listed { IsErrOf result FileErr.Failed ↔
             IsToFail self.old.fail self.old.calls }
-        ensures failed { IsErrOf result FileErr.Failed → self.new ≡ with_fault (after_call self.old) }
+        ensures failed { IsErrOf result FileErr.Failed →
+            self.new ≡ with_fault (after_call self.old) }
         ensures needs_no_memory { ¬ IsErrOf result FileErr.NoMemory }
         ensures later_faults { IsLater self.old.faults self.new.faults }
         ensures later_misses { IsLater self.old.misses self.new.misses }
