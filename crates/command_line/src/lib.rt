@@ -43,3 +43,6 @@ pub fn options(alloc: Global, words: &[String]) -> Result<Chosen, OptFault>
     }
     Ok(asked(alloc, command, &items)?)
 }
+
+#[cfg(test)]
+mod tests;
