@@ -3,7 +3,7 @@
 //! and clap reads the options from these.
 #![tactic(auto)]
 
-ghost use Rattle.std.specs.Prelude.{◌≡◌, Some, MatchResult, IfOk};
+ghost use Rattle.std.specs.Prelude.{◌≡◌, Some, IfErr, IfOk};
 ghost use Rattle.command_line.specs.Words.{options_of, texts, SaysUsage, HasLimits};
 
 mod asking;
@@ -26,7 +26,8 @@ use table::Command;
 /// name. `Usage` comes exactly where they are outside the grammar, `NoMemory` where memory runs out.
 #[tactic(auto, unfolding(crate::specs::Words::options_of))]
 pub fn options(alloc: Global, words: &[String]) -> Result<Chosen, OptFault>
-    ensures chosen { MatchResult result (λ c. options_of (texts words.now) ≡ Some c) (SaysUsage (options_of (texts words.now))) }
+    ensures chosen { IfOk result (λ c. options_of (texts words.now) ≡ Some c) }
+    ensures refused { IfErr result (SaysUsage (options_of (texts words.now))) }
     ensures limits { IfOk result HasLimits }
 {
     let [word, rest @ ..] = words else {

@@ -4,7 +4,7 @@ use std::alloc::AllocError;
 use std::test::Fail;
 
 // Words, and the command with its options in the order of the fields.
-const GOOD: [(&str, &str); 20] = [
+static GOOD: [(&str, &str); 20] = [
     ("GenerateCSMesh --res 1 --file cs1.g", "Cs 1 cs1.g"),
     ("GenerateCSMesh --res=1 --file=cs1.g", "Cs 1 cs1.g"),
     ("GenerateCSMesh --res 000001 --file cs1.g", "Cs 1 cs1.g"),
@@ -51,7 +51,7 @@ const GOOD: [(&str, &str); 20] = [
     ("CheckMesh --workers 2 --file m.g", "Check m.g 2"),
 ];
 
-const REFUSED: [&str; 40] = [
+static REFUSED: [&str; 40] = [
     "",
     "GenerateCSMesh",
     "generatecsmesh --res 1 --file cs1.g",
@@ -142,9 +142,9 @@ fn shown(alloc: Global, chosen: &Chosen) -> Result<String, AllocError> {
 #[test]
 fn good_words_give_their_options(rt: HostRuntime) -> Result<(), Fail> {
     let alloc = rt.alloc();
-    for (text, want) in GOOD {
+    for (text, want) in &GOOD {
         match asked_by(alloc, text)? {
-            Ok(chosen) => assert_eq!(rt; shown(alloc, &chosen)?.as_str(), want, "at {text}"),
+            Ok(chosen) => assert_eq!(rt; shown(alloc, &chosen)?.as_str(), *want, "at {text}"),
             Err(fault) => panic!(rt; "{fault:?} at {text}"),
         }
     }
@@ -154,7 +154,7 @@ fn good_words_give_their_options(rt: HostRuntime) -> Result<(), Fail> {
 #[test]
 fn other_words_are_refused(rt: HostRuntime) -> Result<(), Fail> {
     let alloc = rt.alloc();
-    for text in REFUSED {
+    for text in &REFUSED {
         let refused = matches!(asked_by(alloc, text)?, Err(OptFault::Usage));
         assert!(rt; refused, "at {text}");
     }
