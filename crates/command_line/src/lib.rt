@@ -1,6 +1,9 @@
-//! The command line of the program. Its words are read into items by hand, which is the exact test
-//! of the grammar; the items of right words are spelled one word each, in the order of the table,
-//! and clap reads the options from these.
+//! The command line of the program.
+//!
+//! The words are first read into items by hand, which is the exact test of the grammar: clap alone
+//! would take more, as an empty value, a value that begins with a dash, or a last word `--`. The
+//! items of right words are then spelled one word each, `--name=value`, in the order of the table,
+//! and clap reads the options from these words.
 #![tactic(auto)]
 
 ghost use Rattle.std.specs.Prelude.{◌≡◌, Some, IfErr, IfOk};
