@@ -5,7 +5,7 @@ use std::thread::Threads;
 use tempest_top::{Status, run};
 
 /// The words of a command line, parted at single spaces.
-pub fn words_of(alloc: Global, text: &str) -> Result<Vec<String>, AllocError> {
+pub(crate) fn words_of(alloc: Global, text: &str) -> Result<Vec<String>, AllocError> {
     let mut words = Vec::new(alloc);
     for word in text.split(' ') {
         words.push(String::from_str(alloc, word)?)?;
@@ -23,7 +23,7 @@ pub struct Run {
 
 impl Run {
     /// Nothing is there, and no call fails.
-    pub fn new(alloc: Global) -> Run {
+    pub(crate) fn new(alloc: Global) -> Run {
         Run {
             files: MemFiles::new(alloc, Vec::new(alloc)),
             out: MemSink::new(alloc, Vec::new(alloc)),
@@ -32,7 +32,7 @@ impl Run {
     }
 
     /// Runs the words.
-    pub fn go(
+    pub(crate) fn go(
         &mut self,
         rt: &impl Threads,
         alloc: Global,
