@@ -7,7 +7,9 @@ use Rattle.vec_exact.specs.Size.{Is18}
 use Rattle.vec_exact.specs.Cycle.{after, vector_at}
 use Rattle.vec_exact.specs.Face.{vector_of, face_nodes, IsNodeNumber, IsAccepted}
 use Rattle.mesh_check.specs.declared.faults.MeshFault.{MeshFault}
-use Rattle.mesh_check.specs.declared.faults.MeshFault.TheVariants.{TooManyNodes, TooManyFaces, CoordRange, ZeroNode, NodeNumber, FaceSize, NotConvex}
+use Rattle.mesh_check.specs.declared.faults.MeshFault.TheVariants.{TooManyNodes, TooManyFaces, CoordRange, ZeroNode, NodeNumber, FaceSize, NotConvex, NoMemory}
+use Rattle.mesh_check.specs.declared.faults.GenFault.{GenFault}
+use Rattle.mesh_check.specs.declared.faults.GenFault.TheVariants.{Mesh, NoMemory as GenNoMemory}
 use Rattle.mesh_check.specs.Mesh.{IsGoodNode}
 
 -- the fault of a node count and a face count, or none
@@ -58,3 +60,8 @@ pub record IsFirstFaceFault (nodes faces : List (List ℤ)) (fault : MeshFault) 
 -- this is the first fault of a raw mesh: the nodes ascending, and where they are all good, the faces ascending
 abbrev pub IsFirstMeshFault : RawMesh → MeshFault → Type 0
 IsFirstMeshFault raw fault = IsFirstNodeFault raw.nodes fault ⊎ (All IsGoodNode raw.nodes × IsFirstFaceFault raw.nodes raw.faces fault)
+
+-- the fault of a generator whose mesh has this fault: want of memory stays want of memory
+abbrev pub gen_fault_of : MeshFault → GenFault
+gen_fault_of NoMemory = GenNoMemory
+gen_fault_of fault = Mesh fault

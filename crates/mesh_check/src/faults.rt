@@ -1,6 +1,8 @@
 // What is wrong with a mesh.
 ghost use Rattle.std.specs.Prelude.{◌≡◌};
 ghost use Rattle.mesh_check.specs.declared.faults.MeshFault.TheVariants.{NoMemory};
+ghost use Rattle.mesh_check.specs.declared.faults.GenFault.TheVariants.{NoMemory as GenNoMemory};
+ghost use Rattle.mesh_check.specs.FirstFault.{gen_fault_of};
 
 use std::alloc::AllocError;
 use vec_exact::NoMemory;
@@ -44,7 +46,20 @@ pub enum GenFault {
 }
 
 impl From<AllocError> for GenFault {
+    ghost from_gives = { λ _ fault. fault ≡ GenNoMemory };
+
     fn from(_: AllocError) -> Self {
         GenFault::NoMemory
+    }
+}
+
+impl From<MeshFault> for GenFault {
+    ghost from_gives = { λ mesh_fault fault. fault ≡ gen_fault_of mesh_fault };
+
+    fn from(fault: MeshFault) -> Self {
+        match fault {
+            MeshFault::NoMemory => GenFault::NoMemory,
+            _ => GenFault::Mesh(fault),
+        }
     }
 }

@@ -6,6 +6,8 @@ mod faces;
 mod faults;
 mod mesh;
 mod nodes;
+#[cfg(test)]
+mod tests;
 
 pub use counts::check_counts;
 pub use faults::{GenFault, MeshFault};

@@ -1,12 +1,12 @@
 // Accepted meshes.
-ghost use Rattle.std.specs.Prelude.{◌≡◌, ◌≢◌, ◌≤◌, ◌-◌, length, IfErr, IfOk, OnOk};
+ghost use Rattle.std.specs.Prelude.{◌≡◌, ◌≢◌, ◌≤◌, ◌-◌, ◌⊎◌, length, IfErr, IfOk, OnOk, Err};
 ghost use Rattle.vec_exact.specs.Vector.{zero_triple};
 ghost use Rattle.vec_exact.specs.Size.{Is37};
 ghost use Rattle.vec_exact.specs.Cycle.{face_plane, vector_at};
 ghost use Rattle.vec_exact.specs.Counts.{AreAllowedCounts};
 ghost use Rattle.vec_exact.specs.Face.{vector_of, IsAcceptedNode, IsAccepted};
 ghost use Rattle.mesh_check.specs.declared.faults.MeshFault.TheVariants.{NoMemory as MeshNoMemory};
-ghost use Rattle.mesh_check.specs.declared.faults.MeshFault.{MeshFault as SomeFault};
+ghost use Rattle.mesh_check.specs.declared.faults.MeshFault.{MeshFault as FirstFault};
 ghost use Rattle.mesh_check.specs.Kept.{face_lists};
 ghost use Rattle.mesh_check.specs.Mesh.{IsAcceptedMesh, face_of, corners_of, node_at};
 ghost use Rattle.mesh_check.specs.FirstFault.{IsFirstMeshFault};
@@ -137,6 +137,8 @@ pub fn check(alloc: Global, raw: RawMesh) -> Result<Mesh, MeshFault>
     ensures same { IfOk result (λ mesh. mesh ≡ raw) }
     ensures accepted { OnOk result (IsAcceptedMesh raw) }
     ensures fault { IfErr result (λ fault. fault ≢ MeshNoMemory → IsFirstMeshFault raw fault) }
+    // and where the raw mesh has a fault, no mesh comes, and no other fault
+    ensures refused { (fault : FirstFault) → IsFirstMeshFault raw fault → (result ≡ Err fault) ⊎ (result ≡ Err MeshNoMemory) }
 {
     check_nodes(&raw.nodes.items)?;
     check_faces(&raw.nodes.items, &raw.faces.items)?;
