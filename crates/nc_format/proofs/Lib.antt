@@ -1,1 +1,3 @@
-
+pub mod Loop
+pub mod Stops
+pub mod Outside

@@ -1,3 +1,6 @@
 pub mod Parts
 pub mod Grammar
 pub mod Answers
+pub mod Placing
+pub mod Header
+pub mod Sound

@@ -4,10 +4,14 @@
 mod cursor;
 mod fault;
 mod lists;
+mod parts;
+mod placing;
+mod reading;
 
 pub use fault::NcFault;
 pub use lists::{Bytes, NcAtts, NcDims, NcVars};
 use nc_write::{DimIds, Name, NcKind};
+pub use reading::read_header;
 
 /// A dimension: its name and its length. The one of length 0 is the record dimension.
 #[derive(Drop)]

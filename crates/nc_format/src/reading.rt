@@ -1,0 +1,61 @@
+// A whole header.
+ghost use Rattle.std.specs.Prelude.{◌≡◌, ◌≤◌, ◌<◌, ◌^◌, length, IfOk, Ok};
+ghost use Rattle.nc_format.specs.declared.NcFile.{NcFile};
+ghost use Rattle.nc_format.specs.Answers.{Answers};
+ghost use Rattle.nc_format.specs.Header.{header_read, fields_in, finished, header_in};
+
+use crate::cursor::Cursor;
+use crate::placing::place_all;
+use crate::{NcFault, NcFile};
+use std::alloc::Global;
+
+#[tactic(auto, unfolding(crate::specs::Header::header_read, crate::specs::Header::magic_read))]
+fn fields(alloc: Global, bytes: &[u8]) -> Result<NcFile, NcFault>
+    ensures read { Answers (λ f. f) result (fields_in (header_read bytes.now)) }
+    ensures few { IfOk result (λ f. length f.vars < 2 ^ 32) }
+{
+    if bytes.len() < 4 || bytes[0] != 0x43 || bytes[1] != 0x44 || bytes[2] != 0x46 {
+        return Err(NcFault::NotNetcdf);
+    }
+    let version = bytes[3];
+    if version != 1 && version != 2 && version != 5 {
+        return Err(NcFault::BadField(3));
+    }
+    let mut cursor = Cursor {
+        bytes,
+        at: 4,
+        version,
+    };
+    cursor.body(alloc)
+}
+
+#[tactic(auto, unfolding(crate::specs::Header::finished))]
+fn finished(file: NcFile, len: u64) -> Result<NcFile, NcFault>
+    requires few { length file.vars < 2 ^ 32 }
+    requires len { len < 2 ^ 63 }
+    ensures { Answers (λ x. x) result (finished len file) }
+{
+    let mut file = file;
+    match place_all(&file.dims.items, file.records, len, &mut file.vars.items) {
+        Some(number) => Err(NcFault::DataOutside(number)),
+        None => Ok(file),
+    }
+}
+
+#[tactic(auto, unfolding(crate::specs::Header::header_in))]
+fn header(alloc: Global, bytes: &[u8], file_len: u64) -> Result<NcFile, NcFault>
+    requires { file_len ≤ 2147483647 }
+    ensures { Answers (λ f. f) result (header_in bytes.now file_len) }
+{
+    let file = fields(alloc, bytes)?;
+    finished(file, file_len)
+}
+
+/// The header that the bytes begin with.
+pub fn read_header(alloc: Global, bytes: &[u8], file_len: u64) -> Result<NcFile, NcFault>
+    requires within { length bytes.now ≤ file_len }
+    requires short { file_len ≤ 2147483647 }
+    ensures exact { Answers (λ f. f) result (header_in bytes.now file_len) }
+{
+    header(alloc, bytes, file_len)
+}
