@@ -1,3 +1,5 @@
 pub mod Loop
 pub mod Stops
 pub mod Outside
+pub mod Lawful
+pub mod LawfulParts
