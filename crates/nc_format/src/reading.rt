@@ -1,8 +1,10 @@
 // A whole header.
-ghost use Rattle.std.specs.Prelude.{◌≡◌, ◌≤◌, ◌<◌, ◌^◌, length, IfOk, Ok};
+ghost use Rattle.std.specs.Prelude.{◌≡◌, ◌≤◌, ◌<◌, ◌^◌, length, IfOk, IfErr, Ok, Err, Some};
 ghost use Rattle.nc_format.specs.declared.NcFile.{NcFile};
-ghost use Rattle.nc_format.specs.Answers.{Answers};
-ghost use Rattle.nc_format.specs.Header.{header_read, fields_in, finished, header_in};
+ghost use Rattle.nc_format.specs.declared.fault.NcFault.{NcFault};
+ghost use Rattle.nc_format.specs.Answers.{Answers, IsTold};
+ghost use Rattle.nc_format.specs.Sound.{IsSound};
+ghost use Rattle.nc_format.specs.Header.{IsHeader, header_read, fields_in, finished, header_in, first_fault};
 
 use crate::cursor::Cursor;
 use crate::placing::place_all;
@@ -51,11 +53,24 @@ fn header(alloc: Global, bytes: &[u8], file_len: u64) -> Result<NcFile, NcFault>
     finished(file, file_len)
 }
 
-/// The header that the bytes begin with.
+/// The header that the bytes begin with, in a file of `file_len` bytes: its dimensions, attributes
+/// and variables, and where the values of each variable stand.
+///
+/// A fault is the first one from left to right; that data lie outside the file is said when no field
+/// of the header is at fault. Lists grow as items are read, so a great count in a short file takes
+/// no memory.
 pub fn read_header(alloc: Global, bytes: &[u8], file_len: u64) -> Result<NcFile, NcFault>
     requires within { length bytes.now ≤ file_len }
     requires short { file_len ≤ 2147483647 }
-    ensures exact { Answers (λ f. f) result (header_in bytes.now file_len) }
+    // What is answered is the header that the bytes begin with.
+    ensures header { IfOk result (λ f. IsHeader bytes.now file_len f) }
+    // Such a header is answered, unless memory runs out.
+    ensures only { (f : NcFile) → IsHeader bytes.now file_len f → Answers (λ g. g) result (Ok f) }
+    // A fault that is answered is the first one, unless memory ran out.
+    ensures fault { IfErr result (IsTold (first_fault bytes.now file_len)) }
+    // A first fault is answered, unless memory runs out.
+    ensures refused { (e : NcFault) → first_fault bytes.now file_len ≡ Some e → Answers (λ g. g) result (Err e) }
+    ensures sound { IfOk result IsSound }
 {
     header(alloc, bytes, file_len)
 }
