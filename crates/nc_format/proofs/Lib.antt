@@ -6,3 +6,5 @@ pub mod LawfulParts
 pub mod Whole
 pub mod SoundParts
 pub mod Clauses
+pub mod Prefix
+pub mod Names

@@ -4,7 +4,7 @@ use Rattle.std.specs.List.{position}
 use Rattle.nc_format.specs.declared.NcVar.{NcVar}
 use Rattle.nc_format.specs.declared.NcFile.{NcFile}
 use Rattle.nc_format.specs.declared.fault.NcFault.{NcFault}
-use Rattle.nc_format.specs.declared.fault.NcFault.TheVariants.{NotNetcdf, BadField, DataOutside}
+use Rattle.nc_format.specs.declared.fault.NcFault.TheVariants.{NotNetcdf, Truncated, BadField, DataOutside}
 use Rattle.nc_format.specs.Parts.{on_value}
 use Rattle.nc_format.specs.Grammar.{body}
 use Rattle.nc_format.specs.Placing.{placed_vars, with_places, is_outside}
@@ -103,3 +103,7 @@ fault_in (Err e) = Some e
 -- the first fault, if there is one
 unfoldable pub first_fault : List ℕ → ℕ → Option NcFault
 first_fault b len = fault_in (header_in b len)
+
+-- no fault, or one that more bytes leave as it is
+abbrev pub IsSettled : Option NcFault → Type 0
+IsSettled first = (o : ℕ) → first ≢ Some (Truncated o)

@@ -4,3 +4,4 @@ pub mod Answers
 pub mod Placing
 pub mod Header
 pub mod Sound
+pub mod Numbers

@@ -3,15 +3,21 @@
 
 mod cursor;
 mod fault;
+mod laws;
 mod lists;
+mod lookup;
 mod parts;
 mod placing;
 mod reading;
+mod values;
 
 pub use fault::NcFault;
+pub use laws::{law_first_fault, law_prefix};
 pub use lists::{Bytes, NcAtts, NcDims, NcVars};
+pub use lookup::{find_dim, find_var, int_att};
 use nc_write::{DimIds, Name, NcKind};
 pub use reading::read_header;
+pub use values::{gather, int_values, is_int, is_long, long_values};
 
 /// A dimension: its name and its length. The one of length 0 is the record dimension.
 #[derive(Drop)]
