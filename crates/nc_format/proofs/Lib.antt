@@ -8,3 +8,7 @@ pub mod SoundParts
 pub mod Clauses
 pub mod Prefix
 pub mod Names
+pub mod Spelled
+pub mod Cut
+pub mod Inside
+pub mod ReadBack

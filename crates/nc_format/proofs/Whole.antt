@@ -29,7 +29,7 @@ both : (a b : Bool) → (a && b) ≡ true → (a ≡ true) × (b ≡ true)
 both true b e = (refl, e)
 both false b e = absurd cc
 
-short_is : (b : List ℕ) → length b < 4 → header_read b ≡ Err NotNetcdf
+pub short_is : (b : List ℕ) → length b < 4 → header_read b ≡ Err NotNetcdf
 unfolding header_read
 short_is b lt = let t : ltb (length b) 4 ≡ true = lt-ltb _ _ lt in rw t refl
 

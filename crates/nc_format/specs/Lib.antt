@@ -5,3 +5,4 @@ pub mod Placing
 pub mod Header
 pub mod Sound
 pub mod Numbers
+pub mod Written

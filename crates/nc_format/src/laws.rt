@@ -1,7 +1,12 @@
 // Laws of headers.
-ghost use Rattle.std.specs.Prelude.{◌≡◌, ◌↔◌, ◌≤◌, ◌++◌, ℕ, List, length, None, Some};
+ghost use Rattle.std.specs.Prelude.{◌≡◌, ◌↔◌, ◌≤◌, ◌<◌, ◌++◌, ℕ, List, length, take, None, Some};
+ghost use Rattle.nc_write.specs.declared.NcDoc.{NcDoc};
+ghost use Rattle.nc_write.specs.File.{file_of, header_len};
+ghost use Rattle.nc_write.specs.Form.{IsWellFormed};
 ghost use Rattle.nc_format.specs.declared.NcFile.{NcFile};
 ghost use Rattle.nc_format.specs.declared.fault.NcFault.{NcFault};
+ghost use Rattle.nc_format.specs.declared.fault.NcFault.TheVariants.{NotNetcdf, Truncated};
+ghost use Rattle.nc_format.specs.Written.{header_of, IsOfDoc, IsWhole};
 ghost use Rattle.nc_format.specs.Header.{IsHeader, IsFirstFault, IsSettled, first_fault};
 
 /// There is one header or one first fault. All fields before a first fault are spelled as the
@@ -16,4 +21,17 @@ pub fn law_first_fault()
 pub fn law_prefix()
     ensures header { (b more : List ℕ) (len : ℕ) (f : NcFile) → IsHeader b len f → IsHeader (b ++ more) len f }
     ensures fault { (b more : List ℕ) (len : ℕ) → 4 ≤ length b → IsSettled (first_fault b len) → first_fault (b ++ more) len ≡ first_fault b len }
+{}
+
+/// Of the file of a document, cut to its first c bytes: which fault there is.
+pub fn law_cut()
+    ensures magic { (doc : NcDoc) (c : ℕ) → c < length (file_of doc) → c < 4 → first_fault (take c (file_of doc)) c ≡ Some NotNetcdf }
+    ensures header { (doc : NcDoc) → IsWellFormed doc → (c : ℕ) → c < length (file_of doc) → 4 ≤ c → c < header_len doc → (o : ℕ) × (o ≤ c) × (first_fault (take c (file_of doc)) c ≡ Some (Truncated o)) }
+    ensures data { (doc : NcDoc) → IsWellFormed doc → (c : ℕ) → c < length (file_of doc) → header_len doc ≤ c → IsWhole (first_fault (take c (file_of doc)) c) }
+{}
+
+/// What is written is read again: the file of a document has the document's header.
+pub fn law_written()
+    ensures header { (doc : NcDoc) → IsWellFormed doc → IsHeader (file_of doc) (length (file_of doc)) (header_of doc) }
+    ensures fields { (doc : NcDoc) → IsOfDoc doc (header_of doc) }
 {}

@@ -12,7 +12,7 @@ mod reading;
 mod values;
 
 pub use fault::NcFault;
-pub use laws::{law_first_fault, law_prefix};
+pub use laws::{law_cut, law_first_fault, law_prefix, law_written};
 pub use lists::{Bytes, NcAtts, NcDims, NcVars};
 pub use lookup::{find_dim, find_var, int_att};
 use nc_write::{DimIds, Name, NcKind};

@@ -1,0 +1,8 @@
+use Rattle.nc_format.proofs.Inside.{doc_header, is_of_doc}
+use Rattle.nc_format.proofs.laws.law_written.Goals as goal
+
+pub returns-clause-header : goal.returns-clause-header
+returns-clause-header c = doc_header
+
+pub returns-clause-fields : goal.returns-clause-fields
+returns-clause-fields c = is_of_doc
