@@ -142,7 +142,7 @@ vars_inside doc top fixed record_place (v ∷ vs) one two =
         (omega (arith, at, one, sum_by-cons (fixed_len doc) v vs, size, piece_same doc begin v))
 
 -- the first records are no longer than one step
-first_step : (doc : NcDoc) (vs : List DocVar) → 0 < doc.records → sum_by (first_len doc) vs ≡ sum_by (record_len doc) vs
+pub first_step : (doc : NcDoc) (vs : List DocVar) → 0 < doc.records → sum_by (first_len doc) vs ≡ sum_by (record_len doc) vs
 first_step doc [] some = refl
 first_step doc (v ∷ vs) some = omega (arith, sum_by-cons (first_len doc) v vs, sum_by-cons (record_len doc) v vs, first_is doc v some, first_step doc vs some)
 

@@ -12,3 +12,4 @@ pub mod Spelled
 pub mod Cut
 pub mod Inside
 pub mod ReadBack
+pub mod Gathered

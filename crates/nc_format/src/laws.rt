@@ -1,12 +1,14 @@
 // Laws of headers.
-ghost use Rattle.std.specs.Prelude.{◌≡◌, ◌↔◌, ◌≤◌, ◌<◌, ◌++◌, ℕ, List, length, take, None, Some};
+ghost use Rattle.std.specs.Prelude.{◌≡◌, ◌↔◌, ◌≤◌, ◌<◌, ◌++◌, ℕ, List, length, take, All, None, Some};
+ghost use Rattle.std.specs.List.{AllZip};
 ghost use Rattle.nc_write.specs.declared.NcDoc.{NcDoc};
-ghost use Rattle.nc_write.specs.File.{file_of, header_len};
+ghost use Rattle.nc_write.specs.File.{file_of, header_len, numbers_of};
 ghost use Rattle.nc_write.specs.Form.{IsWellFormed};
 ghost use Rattle.nc_format.specs.declared.NcFile.{NcFile};
 ghost use Rattle.nc_format.specs.declared.fault.NcFault.{NcFault};
 ghost use Rattle.nc_format.specs.declared.fault.NcFault.TheVariants.{NotNetcdf, Truncated};
-ghost use Rattle.nc_format.specs.Written.{header_of, IsOfDoc, IsWhole};
+ghost use Rattle.nc_format.specs.Written.{header_of, HasTypedValues, IsOfDoc, IsWhole};
+ghost use Rattle.nc_format.specs.Numbers.{gathered, numbers_in};
 ghost use Rattle.nc_format.specs.Header.{IsHeader, IsFirstFault, IsSettled, first_fault};
 
 /// There is one header or one first fault. All fields before a first fault are spelled as the
@@ -30,8 +32,10 @@ pub fn law_cut()
     ensures data { (doc : NcDoc) → IsWellFormed doc → (c : ℕ) → c < length (file_of doc) → header_len doc ≤ c → IsWhole (first_fault (take c (file_of doc)) c) }
 {}
 
-/// What is written is read again: the file of a document has the document's header.
+/// What is written is read again: the file of a document has the document's header, and the pieces
+/// of each variable spell its values.
 pub fn law_written()
     ensures header { (doc : NcDoc) → IsWellFormed doc → IsHeader (file_of doc) (length (file_of doc)) (header_of doc) }
     ensures fields { (doc : NcDoc) → IsOfDoc doc (header_of doc) }
+    ensures values { (doc : NcDoc) → IsWellFormed doc → All HasTypedValues doc.vars → AllZip (λ w v. numbers_in w.kind (gathered w (file_of doc)) ≡ numbers_of v.values) (header_of doc).vars doc.vars }
 {}
