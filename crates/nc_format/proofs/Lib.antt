@@ -13,3 +13,5 @@ pub mod Cut
 pub mod Inside
 pub mod ReadBack
 pub mod Gathered
+pub mod Few
+pub mod Pieces

@@ -1,5 +1,5 @@
 -- The values of variables and attributes, and what a name finds.
-use Rattle.std.specs.Prelude.{◌≡◌, ℕ, ◌+◌, ◌*◌, ◌/◌, ◌<◌, ◌≤◌, ℤ, List, map, length, drop, slice_range, Option, Some, None, Bool, true, false, ◌==◌, ◌&&◌, if◌then◌else◌}
+use Rattle.std.specs.Prelude.{◌≡◌, ℕ, ◌+◌, ◌*◌, ◌/◌, ◌%◌, ◌<◌, ◌≤◌, ℤ, List, map, length, drop, slice_range, Option, Some, None, Bool, true, false, ◌==◌, ◌&&◌, if◌then◌else◌}
 use Rattle.std.specs.List.{flat_map, range_with_len, find, position}
 use Rattle.std.specs.Str.{bytes_eq}
 use Rattle.std.specs.Int.{cast_signed}
@@ -50,6 +50,11 @@ numbers_in kind bytes = map (λ k. number_in kind (drop (k * size_of kind) bytes
 -- all pieces of a variable are inside so many bytes
 abbrev pub HasPieces : ℕ → NcVar → Type 0
 HasPieces len v = (r : ℕ) → r < v.parts → v.begin + r * v.step + v.part ≤ len
+
+-- the same, and each piece is some number of values
+pub record HasWholePieces (len : ℕ) (v : NcVar) : Type 0 where
+  pub inside : HasPieces len v
+  pub whole : v.part % size_of v.kind ≡ 0
 
 -- piece r, from 0
 abbrev pub piece_of : NcVar → List ℕ → ℕ → List ℕ

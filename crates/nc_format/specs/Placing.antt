@@ -49,6 +49,12 @@ placed_vars f = map (placed f.records f.dims (step_of f.dims f.vars)) f.vars
 abbrev pub with_places : NcFile → NcFile
 with_places f = record f { vars = placed_vars f }
 
+-- the places of a variable's values are those that its header tells
+pub record IsPlaced (f : NcFile) (v : NcVar) : Type 0 where
+  pub parts : v.parts ≡ parts_of f.records f.dims v
+  pub part : v.part ≡ part_of v.parts (piece_len f.dims v)
+  pub step : v.step ≡ own_step v.parts (step_of f.dims f.vars)
+
 -- where the last piece ends
 abbrev pub end_of : NcVar → ℕ
 end_of v = v.begin + (v.parts - 1) * v.step + v.part

@@ -1,6 +1,6 @@
 -- What holds of every header.
-use Rattle.std.specs.Prelude.{◌≡◌, ℕ, ◌*◌, ◌≤◌, ◌<◌, ◌^◌, List, length, All, ◌==◌}
-use Rattle.std.specs.List.{count_by}
+use Rattle.std.specs.Prelude.{◌≡◌, ℕ, ◌+◌, ◌*◌, ◌≤◌, ◌<◌, ◌^◌, List, length, All, ◌==◌}
+use Rattle.std.specs.List.{count_by, sum_by}
 use Rattle.nc_write.specs.Kinds.{size_of}
 use Rattle.nc_format.specs.declared.NcAtt.{NcAtt}
 use Rattle.nc_format.specs.declared.NcVar.{NcVar}
@@ -22,3 +22,7 @@ pub record IsSound (f : NcFile) : Type 0 where
   pub one_record_dim : count_by is_record_dim f.dims ≤ 1
   pub atts : All IsSoundAtt f.atts
   pub vars : All (IsSoundVar (length f.dims)) f.vars
+
+-- how many dimensions, attributes and variables a header keeps
+abbrev pub item_count : NcFile → ℕ
+item_count f = length f.dims + length f.atts + length f.vars + sum_by (λ v. length v.atts) f.vars

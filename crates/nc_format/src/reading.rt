@@ -1,9 +1,11 @@
 // A whole header.
-ghost use Rattle.std.specs.Prelude.{◌≡◌, ◌≤◌, ◌<◌, ◌^◌, length, IfOk, IfErr, Ok, Err, Some};
+ghost use Rattle.std.specs.Prelude.{◌≡◌, ◌≤◌, ◌<◌, ◌*◌, ◌^◌, length, All, IfOk, IfErr, Ok, Err, Some};
 ghost use Rattle.nc_format.specs.declared.NcFile.{NcFile};
 ghost use Rattle.nc_format.specs.declared.fault.NcFault.{NcFault};
 ghost use Rattle.nc_format.specs.Answers.{Answers, IsTold};
-ghost use Rattle.nc_format.specs.Sound.{IsSound};
+ghost use Rattle.nc_format.specs.Sound.{IsSound, item_count};
+ghost use Rattle.nc_format.specs.Placing.{IsPlaced};
+ghost use Rattle.nc_format.specs.Numbers.{HasWholePieces};
 ghost use Rattle.nc_format.specs.Header.{IsHeader, header_read, fields_in, finished, header_in, first_fault};
 
 use crate::cursor::Cursor;
@@ -71,6 +73,12 @@ pub fn read_header(alloc: Global, bytes: &[u8], file_len: u64) -> Result<NcFile,
     // A first fault is answered, unless memory runs out.
     ensures refused { (e : NcFault) → first_fault bytes.now file_len ≡ Some e → Answers (λ g. g) result (Err e) }
     ensures sound { IfOk result IsSound }
+    // What is kept is at most a quarter of the bytes, by number.
+    ensures few { IfOk result (λ f. 4 * item_count f ≤ length bytes.now) }
+    // The pieces of each variable stand where the dimensions and types say.
+    ensures placed { IfOk result (λ f. All (IsPlaced f) f.vars) }
+    // All pieces of each variable are inside the file, and hold whole values.
+    ensures pieces { IfOk result (λ f. All (HasWholePieces file_len) f.vars) }
 {
     header(alloc, bytes, file_len)
 }

@@ -1,5 +1,5 @@
 // The values of variables.
-ghost use Rattle.std.specs.Prelude.{◌≡◌, ◌≤◌, ◌%◌, ℕ, length, true, IfOk};
+ghost use Rattle.std.specs.Prelude.{◌≡◌, ◌≤◌, ◌*◌, ◌%◌, ℕ, length, true, IfOk};
 ghost use Rattle.nc_write.specs.Kinds.{size_of};
 ghost use Rattle.nc_format.specs.Numbers.{is_int, is_long, number_in, numbers_in, HasPieces, gathered};
 
@@ -28,7 +28,8 @@ pub fn is_long(kind: NcKind) -> bool
 #[tactic(auto, unfolding(crate::specs::Numbers::gathered))]
 pub fn gather(alloc: Global, var: &NcVar, file: &[u8]) -> Result<Vec<u8>, NoMemory>
     requires { HasPieces (length file.now) var.now }
-    ensures { IfOk result (λ bytes. bytes.items ≡ gathered var.now file.now) }
+    ensures pieces { IfOk result (λ bytes. bytes.items ≡ gathered var.now file.now) }
+    ensures len { IfOk result (λ bytes. length bytes.items ≡ var.now.parts * var.now.part) }
 {
     let part = var.part as usize;
     let mut bytes = Vec::with_capacity(alloc, part.saturating_mul(var.parts as usize))?;
