@@ -1,5 +1,5 @@
--- The grammar of a header, in the order of the netCDF classic format specification; version 5 by CDF-5.
--- The bound on counts and lengths, and what is let through, are this project's own.
+-- The grammar of a header, by the productions of the netCDF classic format specification; version 5 by CDF-5.
+-- The bound on counts and lengths, and what is let through, are this project's own. Numbers are read without sign.
 use Rattle.std.specs.Prelude.{◌≡◌, ℕ, zero, suc, ◌+◌, ◌*◌, List, [], ◌∷◌, ◌++◌, length, map, Bool, true, false, nat_lt, nat_le, ◌==◌, ◌&&◌, ◌||◌, not, if◌then◌else◌, slice_index}
 use Rattle.std.specs.List.{list_any}
 use Rattle.nc_write.specs.declared.NcKind.{NcKind}
@@ -51,6 +51,7 @@ kind_numbered t =
     if t == 1 then Byte else (if t == 2 then Char else (if t == 3 then Short else (if t == 4 then Int else (if t == 5 then Float else (if t == 6 then Double else (
     if t == 7 then UByte else (if t == 8 then UShort else (if t == 9 then UInt else (if t == 10 then Int64 else UInt64)))))))))
 
+-- a type, by its number
 unfoldable pub nc_type : ℕ → Part NcKind
 nc_type version = do
   t ← such_that (number 4) (is_type version) BadField
@@ -62,7 +63,7 @@ nc_type version = do
 abbrev pub all_ff : ℕ → ℕ
 all_ff version = if version == 5 then 18446744073709551615 else 4294967295
 
--- the number of records
+-- the number of records, which is all ff in a streaming file
 unfoldable pub numrecs : ℕ → Part ℕ
 numrecs version = such_that (such_that (number (width version)) (λ n. not (n == all_ff version)) (λ _. Streaming)) (λ n. nat_le n 4294967295) BadField
 
@@ -77,12 +78,15 @@ dim version seen = do
   len ← such_that (bounded version) (λ n. not (seen && n == 0)) BadField
   gives (record { name = text; len = len })
 
+-- a dimension behind those in front
 abbrev pub next_dim : ℕ → List NcDim → Part NcDim
 next_dim version front = dim version (list_any is_record_dim front)
 
+-- the dimensions, under the tag 10
 unfoldable pub dim_list : ℕ → Part (List NcDim)
 dim_list version = listed version 10 (next_dim version)
 
+-- an attribute: its name, its type, and so many values
 unfoldable pub att : ℕ → Part NcAtt
 att version = do
   text ← name version
@@ -91,9 +95,11 @@ att version = do
   values ← padded (count * size_of kind)
   gives (record { name = text; kind = kind; count = count; bytes = values })
 
+-- the attributes of a file or of a variable, under the tag 12
 unfoldable pub att_list : ℕ → Part (List NcAtt)
 att_list version = listed version 12 (λ front. att version)
 
+-- the lengths of all dimensions
 abbrev pub lens_of : List NcDim → List ℕ
 lens_of dims = map (λ d. d.len) dims
 
@@ -101,15 +107,17 @@ lens_of dims = map (λ d. d.len) dims
 unfoldable pub dim_id : ℕ → List NcDim → Bool → Part ℕ
 dim_id version dims is_first = such_that (such_that (number (width version)) (λ id. nat_lt id (length dims)) BadField) (λ id. is_first || not (slice_index (lens_of dims) id == 0)) BadField
 
+-- the number of a dimension behind those in front
 abbrev pub next_id : ℕ → List NcDim → List ℕ → Part ℕ
 next_id version dims front = dim_id version dims (length front == 0)
 
+-- a count, and the numbers of as many dimensions
 unfoldable pub dim_ids : ℕ → List NcDim → Part (List ℕ)
 dim_ids version dims = do
   n ← bounded version
   items (next_id version dims) n []
 
--- a variable, whose vsize may hold anything; where its values stand, but for their begin, is no field
+-- a variable, whose vsize may hold anything; of where its values stand only the begin is a field, and the rest is 0 here
 unfoldable pub var : ℕ → List NcDim → Part NcVar
 var version dims = do
   text ← name version
@@ -120,6 +128,7 @@ var version dims = do
   begin ← number (begin_width version)
   gives (record { name = text; dims = ids; atts = atts; kind = kind; begin = begin; parts = 0; part = 0; step = 0 })
 
+-- the variables, under the tag 11
 unfoldable pub var_list : ℕ → List NcDim → Part (List NcVar)
 var_list version dims = listed version 11 (λ front. var version dims)
 

@@ -11,9 +11,11 @@ use Rattle.nc_format.specs.Placing.{placed_vars, with_places, is_outside}
 
 -- The magic.
 
+-- the letters CDF and the byte of the version, with what stands behind
 abbrev pub magic : ℕ → List ℕ → List ℕ
 magic version rest = 0x43 ∷ 0x44 ∷ 0x46 ∷ version ∷ rest
 
+-- the versions that are read
 abbrev pub is_version : ℕ → Bool
 is_version version = version == 1 || version == 2 || version == 5
 
@@ -41,6 +43,7 @@ pub record IsHeader (b : List ℕ) (len : ℕ) (f : NcFile) : Type 0 where
 abbrev pub HasNoMagic : List ℕ → Type 0
 HasNoMagic b = (version : ℕ) (rest : List ℕ) → b ≢ magic version rest
 
+-- the version is none that is read
 pub record HasOtherVersion (b : List ℕ) : Type 0 where
   pub version : ℕ
   pub rest : List ℕ
@@ -74,6 +77,7 @@ IsFirstFault b len e =
 
 -- The same as functions, from left to right.
 
+-- the fields behind four bytes that are told
 unfoldable pub magic_read : ℕ → ℕ → ℕ → ℕ → List ℕ → Result (NcFile × ℕ) NcFault
 magic_read c d f version b = if c == 0x43 && d == 0x44 && f == 0x46 then (if is_version version then (body version).read b 4 else Err (BadField 3)) else Err NotNetcdf
 
@@ -81,6 +85,7 @@ magic_read c d f version b = if c == 0x43 && d == 0x44 && f == 0x46 then (if is_
 unfoldable pub header_read : List ℕ → Result (NcFile × ℕ) NcFault
 header_read b = if nat_lt (length b) 4 then Err NotNetcdf else magic_read (slice_index b 0) (slice_index b 1) (slice_index b 2) (slice_index b 3) b
 
+-- a header, unless some variable is outside the file
 abbrev pub inside_or : NcFile → Option ℕ → Result NcFile NcFault
 inside_or f None = Ok f
 inside_or f (Some number) = Err (DataOutside number)
@@ -89,13 +94,16 @@ inside_or f (Some number) = Err (DataOutside number)
 unfoldable pub finished : ℕ → NcFile → Result NcFile NcFault
 finished len f = inside_or (with_places f) (position (is_outside len) (placed_vars f))
 
+-- the fields without the offset
 abbrev pub fields_in : Result (NcFile × ℕ) NcFault → Result NcFile NcFault
 fields_in (Ok x) = Ok x.0
 fields_in (Err e) = Err e
 
+-- the header that bytes begin with in a file of a length, or the first fault
 unfoldable pub header_in : List ℕ → ℕ → Result NcFile NcFault
 header_in b len = on_value (fields_in (header_read b)) (finished len)
 
+-- the fault, if there is one
 abbrev pub fault_in : Result NcFile NcFault → Option NcFault
 fault_in (Ok f) = None
 fault_in (Err e) = Some e

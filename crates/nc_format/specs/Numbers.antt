@@ -68,9 +68,11 @@ gathered v file = flat_map (piece_of v file) (range_with_len 0 v.parts)
 abbrev pub att_named : List NcAtt → List ℕ → Option NcAtt
 att_named atts name = find (λ a. bytes_eq a.name name) atts
 
+-- the value of an attribute that is one integer
 abbrev pub one_int : NcAtt → Option ℤ
 one_int a = if is_int a.kind && a.count == 1 then Some (number_in a.kind a.bytes) else None
 
+-- the same of an attribute that there may be
 abbrev pub one_int_of : Option NcAtt → Option ℤ
 one_int_of None = None
 one_int_of (Some a) = one_int a

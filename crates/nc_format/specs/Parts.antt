@@ -10,6 +10,7 @@ abbrev pub on_value : {A B : Type 0} → Result A NcFault → (A → Result B Nc
 on_value (Ok x) f = f x
 on_value (Err e) f = Err e
 
+-- A part of a file that stands for a value.
 pub record Part (A : Type 0) : Type 1 where
   -- these bytes spell this value
   pub Spells : List ℕ → A → Type 0

@@ -1,4 +1,5 @@
--- Where the values of variables stand, and which of them a file of some length holds.
+-- Where the values of variables stand, and which of them a file of some length holds (netCDF classic format
+-- specification, on the computation of variable offsets).
 use Rattle.std.specs.Prelude.{◌≡◌, ℕ, ◌+◌, ◌-◌, ◌*◌, List, map, Option, Bool, nat_lt, ◌==◌, ◌&&◌, not, if◌then◌else◌}
 use Rattle.std.specs.List.{count_by, sum_by}
 use Rattle.nc_write.specs.Kinds.{size_of}
@@ -28,9 +29,11 @@ step_of dims vars = sum_by (share dims (not (count_by (is_record_var dims) vars 
 abbrev pub parts_of : ℕ → List NcDim → NcVar → ℕ
 parts_of records dims v = if is_record_var dims v then records else 1
 
+-- the bytes of a piece; 0 where there is none
 abbrev pub part_of : ℕ → ℕ → ℕ
 part_of parts len = if parts == 0 then 0 else len
 
+-- from one piece to the next; 0 where there is none
 abbrev pub own_step : ℕ → ℕ → ℕ
 own_step parts step = if nat_lt 1 parts then step else 0
 
@@ -46,6 +49,7 @@ placed records dims step v = record v {
 abbrev pub placed_vars : NcFile → List NcVar
 placed_vars f = map (placed f.records f.dims (step_of f.dims f.vars)) f.vars
 
+-- a header with the places of all values
 abbrev pub with_places : NcFile → NcFile
 with_places f = record f { vars = placed_vars f }
 

@@ -16,6 +16,7 @@ pub record IsSoundVar (dim_count : ℕ) (v : NcVar) : Type 0 where
   pub ids : All (λ id. id < dim_count) v.dims
   pub atts : All IsSoundAtt v.atts
 
+-- what the calls that look at a header may rely on
 pub record IsSound (f : NcFile) : Type 0 where
   pub few_dims : length f.dims < 2 ^ 32
   pub few_vars : length f.vars < 2 ^ 32

@@ -15,9 +15,11 @@ use Rattle.nc_format.specs.declared.fault.NcFault.{NcFault}
 use Rattle.nc_format.specs.declared.fault.NcFault.TheVariants.{DataOutside}
 use Rattle.nc_format.specs.Placing.{with_places}
 
+-- a dimension as it is read
 abbrev pub dim_of : DocDim → NcDim
 dim_of d = record { name = d.name; len = d.len }
 
+-- an attribute as it is read: one INT
 abbrev pub att_of : DocAtt → NcAtt
 att_of a = record { name = a.name; kind = kinds.Int; count = 1; bytes = value kinds.Int a.value }
 

@@ -9,6 +9,8 @@ mod lookup;
 mod parts;
 mod placing;
 mod reading;
+#[cfg(test)]
+mod tests;
 mod values;
 
 pub use fault::NcFault;
