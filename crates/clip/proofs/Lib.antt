@@ -1,0 +1,5 @@
+pub mod Corners
+pub mod Size
+pub mod Started
+pub mod Gap
+pub mod OneMore
