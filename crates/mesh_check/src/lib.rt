@@ -1,0 +1,14 @@
+//! Meshes whose faces are all accepted.
+#![tactic(auto)]
+
+mod counts;
+mod faces;
+mod faults;
+mod mesh;
+mod nodes;
+#[cfg(test)]
+mod tests;
+
+pub use counts::check_counts;
+pub use faults::{GenFault, MeshFault};
+pub use mesh::{Mesh, check, edge_count, face_count, node, node_count, plane, raw};
