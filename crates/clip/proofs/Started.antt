@@ -1,5 +1,5 @@
 -- The ring of the first planes of a list, where they are the edges of an accepted face.
-use Rattle.std.proofs.Common.{◌≡◌, ℕ, zero, suc, ◌+◌, ◌<◌, ap, sym, ◌∙◌, subst, arith, List, [], ◌∷◌, ◌++◌, length, slice_index}
+use Rattle.std.proofs.Common.{◌≡◌, ℕ, zero, suc, ◌+◌, ◌<◌, ◌≤◌, ap, sym, ◌∙◌, subst, arith, List, [], ◌∷◌, ◌++◌, length, slice_index, length-take}
 use Rattle.std.specs.List.{range_with_len}
 use Rattle.std.proofs.lemmas.List.{get_or-take}
 use Rattle.std.proofs.lemmas.List.FromFn.{length-range_with_len, get_or-range_with_len}
@@ -10,7 +10,7 @@ use Rattle.vec_exact.proofs.Accepted.{accepted_convex}
 use Rattle.cone_laws.specs.Ring.{plane, IsCycle, IsRingOfFirst}
 use Rattle.cone_laws.proofs.Turned.{same_cycle}
 use Rattle.cone_laws.proofs.FaceEdges.{face_cycle}
-use Rattle.cone_laws.proofs.Pairs.{face_planes_at}
+use Rattle.cone_laws.proofs.Pairs.{face_planes_at, length-face_planes}
 use Rattle.clip.specs.Planes.{AreEdgesOf}
 
 -- one number more
@@ -52,3 +52,7 @@ start_ring ps m f a l e = record {
         get_or-range_with_len 1 m t 0 (omega (arith, len)),
       );
 }
+
+-- there are at least m planes
+pub edges_fit : (ps : List Vec3) (m : ℕ) (f : List Vec3) → AreEdgesOf f ps m → m ≤ length ps
+edges_fit ps m f a = omega (arith, a.size, ap (length {A = Vec3}) a.planes, length-face_planes f, length-take m ps)

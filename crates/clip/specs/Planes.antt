@@ -1,5 +1,6 @@
 -- The first planes of a list: what is asked of them, and whether they have a direction in common.
 use Rattle.std.specs.Prelude.{◌≡◌, ◌≢◌, ℕ, ◌<◌, ◌≤◌, pos, ◌<ℤ◌, List, length, take, slice_index}
+use Rattle.vec_exact.specs.declared.RawMesh.{RawMesh}
 use Rattle.vec_exact.specs.declared.Vec3.{Vec3}
 use Rattle.vec_exact.specs.Vector.{zero_triple, inner}
 use Rattle.vec_exact.specs.Size.{Is37}
@@ -28,3 +29,7 @@ pub record AreEdgesOf (f : List Vec3) (ps : List Vec3) (m : ℕ) : Type 0 where
 pub record AreNumbers (ps : List Vec3) (l : List ℕ) : Type 0 where
   pub least : (t : ℕ) → t < length l → 1 ≤ slice_index l t
   pub greatest : (t : ℕ) → t < length l → slice_index l t ≤ length ps
+
+-- i is the number of a face of the mesh
+abbrev pub IsFaceNumber : RawMesh → ℕ → Type 0
+IsFaceNumber mesh i = (1 ≤ i) × (i ≤ length mesh.faces)

@@ -2,8 +2,14 @@
 #![tactic(auto)]
 
 mod lists;
+mod overlap;
+mod pairs;
+mod pieces;
 mod rings;
 mod sides;
 
 pub use lists::{PlaneList, Ring, corner};
+pub use overlap::Overlap;
+pub use pairs::{clip, is_ring, planes};
+pub use pieces::{Corners, Piece, Pieces};
 pub use rings::{cut, start};

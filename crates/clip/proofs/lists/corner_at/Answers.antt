@@ -1,4 +1,4 @@
-use Rattle.clip.proofs.Corners.{corner_is}
+use Rattle.clip.proofs.CornerPlaces.{corner_is}
 use Rattle.clip.proofs.lists.corner_at.Goals as goal
 
 pub returns-clause-value : goal.returns-clause-value

@@ -1,6 +1,6 @@
 use Rattle.std.proofs.Common.{ℕ, pos, ◌<ℤ◌, sym, subst, arith, below_more, length, slice_index_or}
 use Rattle.std.proofs.lemmas.Int.{ints}
-use Rattle.clip.proofs.Corners.{next_of_run, shifted_first}
+use Rattle.clip.proofs.CornerPlaces.{next_of_run, shifted_first}
 use Rattle.clip.proofs.sides.positive_run.Goals as goal
 
 pub loop-run-init : goal.loop-run-init
