@@ -7,6 +7,8 @@ mod pairs;
 mod pieces;
 mod rings;
 mod sides;
+#[cfg(test)]
+mod tests;
 
 pub use lists::{PlaneList, Ring, corner};
 pub use overlap::Overlap;
