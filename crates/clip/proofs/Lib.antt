@@ -5,3 +5,5 @@ pub mod Gap
 pub mod OneMore
 pub mod Pair
 pub mod Answered
+pub mod RingFacts
+pub mod PieceOrder
