@@ -12,17 +12,19 @@ pub record Rule : Type 0 where
   pub required : Bool
   pub form : Form
 
+-- An option that a command needs.
 abbrev pub required : List ℕ → Form → Rule
 required name form = record { name = name; required = true; form = form }
 
+-- An option that a command can do without.
 abbrev pub optional : List ℕ → Form → Rule
 optional name form = record { name = name; required = false; form = form }
 
--- how many workers share the work
+-- How many workers share the work.
 abbrev pub workers : Rule
 workers = optional (codes "workers") (Number 1 64)
 
--- The options of a command, those that it needs first.
+-- The options of a command, those that it needs first. A number stands with the least and the greatest that is taken.
 abbrev pub rules_of : Command → List Rule
 rules_of GenerateCSMesh = required (codes "res") (Number 1 400) ∷ required (codes "file") Text ∷ []
 rules_of GenerateRLLMesh = required (codes "lon") (Number 3 720) ∷ required (codes "lat") (Number 2 360) ∷ required (codes "file") Text ∷ []
@@ -46,6 +48,7 @@ word_of SelfRun = codes "SelfRun"
 word_of CheckCoverage = codes "CheckCoverage"
 word_of CheckMesh = codes "CheckMesh"
 
+-- The nine commands.
 abbrev pub all_commands : List Command
 all_commands = GenerateCSMesh ∷ GenerateRLLMesh ∷ GenerateICOMesh ∷ GenerateOverlapMesh ∷ GenerateOfflineMap ∷ ApplyOfflineMap ∷ SelfRun ∷ CheckCoverage ∷ CheckMesh ∷ []
 

@@ -1,4 +1,4 @@
--- The command with its options that the words ask for.
+-- The command with its options that the words ask for. Source: this project's own; the names of six commands are after the documentation of TempestRemap.
 use Rattle.std.specs.Prelude.{◌≡◌, ◌≤◌, ℕ, Bool, true, false, not, ◌&&◌, ◌==◌, nat_le, if◌then◌else◌, List, [], ◌∷◌, length, filter, map, Option, Some, None, option_map, option_and_then, unwrap_or, codes, find, ⊤, String, string_bytes, is_some}
 use Rattle.std.specs.List.{list_all, list_any}
 use Rattle.std.specs.Option.{option_map_or}
@@ -22,7 +22,7 @@ abbrev pub is_value : List ℕ → Bool
 is_value [] = false
 is_value (b ∷ bs) = not (b == 45)
 
--- 1 to 6 decimal digits
+-- The text has 1 to 6 characters, which are decimal digits. Zeros may lead.
 abbrev pub is_numeral : List ℕ → Bool
 is_numeral text = nat_le 1 (length text) && nat_le (length text) 6 && all_ascii_digits text
 
@@ -37,7 +37,7 @@ has_form (Number low high) (Some text) = is_number low high text
 has_form Flag None = true
 has_form form value = false
 
--- the items of one name
+-- The items of one name.
 abbrev pub named : List ℕ → List Item → List Item
 named name items = filter (λ i. bytes_eq i.name name) items
 
@@ -47,16 +47,19 @@ keeps rule [] = not rule.required
 keeps rule (item ∷ []) = has_form rule.form item.value
 keeps rule (item ∷ next ∷ rest) = false
 
+-- The item has the name of one of the options.
 abbrev pub is_option : List Rule → Item → Bool
 is_option rules item = list_any (λ rule. bytes_eq rule.name item.name) rules
 
+-- The items keep the rule of each option.
 abbrev pub all_kept : List Rule → List Item → Bool
 all_kept rules items = list_all (λ rule. keeps rule (named rule.name items)) rules
 
+-- Each item has the name of an option.
 abbrev pub all_known : List Rule → List Item → Bool
 all_known rules items = list_all (is_option rules) items
 
--- Each rule is kept, and each item is of an option of the command.
+-- The items are right for a command with these options.
 abbrev pub are_right : List Rule → List Item → Bool
 are_right rules items = all_kept rules items && all_known rules items
 
@@ -64,15 +67,19 @@ are_right rules items = all_kept rules items && all_known rules items
 abbrev pub at : List Item → List ℕ → Option (Option (List ℕ))
 at items name = option_map (λ i. i.value) (find (λ i. bytes_eq i.name name) items)
 
+-- The value of an option, where it has one.
 abbrev pub value_in : List Item → List ℕ → Option (List ℕ)
 value_in items name = option_and_then (λ v. v) (at items name)
 
+-- An option or a flag of this name stands among the items.
 abbrev pub stands_in : List Item → List ℕ → Bool
 stands_in items name = is_some (at items name)
 
+-- The value as a text. The values that right items lack are never asked for.
 abbrev pub text_of : (List ℕ → Option (List ℕ)) → List ℕ → List ℕ
 text_of value name = unwrap_or (value name) []
 
+-- The value as the number that its digits write.
 abbrev pub number_of : (List ℕ → Option (List ℕ)) → List ℕ → ℕ
 number_of value name = digits_value 10 (text_of value name)
 
@@ -80,7 +87,7 @@ number_of value name = digits_value 10 (text_of value name)
 abbrev pub workers_of : (List ℕ → Option (List ℕ)) → ℕ
 workers_of value = option_map_or (digits_value 10) (value (codes "workers")) 1
 
--- The command with its options, by the values that the options have and the flags that stand.
+-- The command with its options, by the values of the options and by which flags stand.
 abbrev pub choice_of : Command → (List ℕ → Option (List ℕ)) → (List ℕ → Bool) → Chosen
 choice_of GenerateCSMesh v stands = Cs (number_of v (codes "res")) (text_of v (codes "file"))
 choice_of GenerateRLLMesh v stands = Rll (number_of v (codes "lon")) (number_of v (codes "lat")) (text_of v (codes "file"))
@@ -92,21 +99,21 @@ choice_of SelfRun v stands = SelfRunOf (number_of v (codes "n")) (workers_of v)
 choice_of CheckCoverage v stands = Coverage (text_of v (codes "a")) (text_of v (codes "b"))
 choice_of CheckMesh v stands = Check (text_of v (codes "file")) (workers_of v)
 
--- What a command comes to with these items.
-abbrev pub asked : Command → Option (List Item) → Option Chosen
-asked command None = None
-asked command (Some items) = if are_right (rules_of command) items then Some (choice_of command (value_in items) (stands_in items)) else None
+-- A command with its items: none where there are no items, or wrong ones.
+abbrev pub with_items : Command → Option (List Item) → Option Chosen
+with_items command None = None
+with_items command (Some items) = if are_right (rules_of command) items then Some (choice_of command (value_in items) (stands_in items)) else None
 
--- The command with its options, if the words are in the grammar.
+-- The command with its options, or none where the words are outside the grammar. The first word names the command.
 unfoldable pub options_of : List (List ℕ) → Option Chosen
 options_of [] = None
-options_of (word ∷ rest) = option_and_then (λ command. asked command (items_of rest)) (command_named word)
+options_of (word ∷ rest) = option_and_then (λ command. with_items command (items_of rest)) (command_named word)
 
--- the words as texts
+-- The words as lists of their bytes.
 abbrev pub texts : List (String Global) → List (List ℕ)
 texts words = map string_bytes words
 
--- Usage is said exactly where the words are out of the grammar.
+-- Usage is said only where the words are outside the grammar. Want of memory says nothing.
 abbrev pub SaysUsage : Option Chosen → OptFault → Type 0
 SaysUsage chosen Usage = chosen ≡ None
 SaysUsage chosen NoMemory = ⊤

@@ -5,8 +5,8 @@ ghost use Rattle.command_line.specs.declared.choices.OptFault.TheVariants.{NoMem
 use std::alloc::AllocError;
 use std::marker::Model;
 
-/// A text of the command line, seen as the list of its bytes. It has at least one byte, and the
-/// first one is no dash.
+/// A text of the command line, seen as the list of its bytes. Where `options` answers with it, it
+/// has at least one byte, and the first is no dash.
 #[derive(Drop)]
 pub struct Text {
     pub text: String,

@@ -1,9 +1,12 @@
-//! The command line of the program. Its words are read into items by hand, which is the exact test
-//! of the grammar; the items of right words are spelled one word each, in the order of the table,
-//! and clap reads the options from these.
+//! The command line of the program.
+//!
+//! The words are first read into items by hand, which is the exact test of the grammar: clap alone
+//! would take more, as an empty value, a value that begins with a dash, or a last word `--`. The
+//! items of right words are then spelled one word each, `--name=value`, in the order of the table,
+//! and clap reads the options from these words.
 #![tactic(auto)]
 
-ghost use Rattle.std.specs.Prelude.{◌≡◌, Some, MatchResult, IfOk};
+ghost use Rattle.std.specs.Prelude.{◌≡◌, Some, IfErr, IfOk};
 ghost use Rattle.command_line.specs.Words.{options_of, texts, SaysUsage, HasLimits};
 
 mod asking;
@@ -26,7 +29,8 @@ use table::Command;
 /// name. `Usage` comes exactly where they are outside the grammar, `NoMemory` where memory runs out.
 #[tactic(auto, unfolding(crate::specs::Words::options_of))]
 pub fn options(alloc: Global, words: &[String]) -> Result<Chosen, OptFault>
-    ensures chosen { MatchResult result (λ c. options_of (texts words.now) ≡ Some c) (SaysUsage (options_of (texts words.now))) }
+    ensures chosen { IfOk result (λ c. options_of (texts words.now) ≡ Some c) }
+    ensures refused { IfErr result (SaysUsage (options_of (texts words.now))) }
     ensures limits { IfOk result HasLimits }
 {
     let [word, rest @ ..] = words else {
@@ -43,3 +47,6 @@ pub fn options(alloc: Global, words: &[String]) -> Result<Chosen, OptFault>
     }
     Ok(asked(alloc, command, &items)?)
 }
+
+#[cfg(test)]
+mod tests;

@@ -113,3 +113,7 @@ module _ (n a b c : ℕ) (least : 1 ≤ n) (a_le : a ≤ n) (b_le : b ≤ n) (c_
 
   pub number_is : number_of (nodes_of n) (node_at n a b c) ≡ pos (before_slice n a + before_row n a b + before_place n a b c + 1)
   number_is = ap (λ (k : ℕ). pos k) (omega (arith, in_nodes))
+
+  pub found_within : position_or_len (is_node n a b c) (nodes_of n) < length (nodes_of n)
+  unfolding nodes_of
+  found_within = within_flat (is_node n a b c) (slice_of n) 0 (n + 1) a a (omega arith) (omega (arith, a_le)) (λ i low high. misses_slice n a b c i (λ e. absurd (omega (arith, e, high)))) hit_slice

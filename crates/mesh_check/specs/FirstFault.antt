@@ -1,4 +1,4 @@
--- The fault of two counts, and the first fault of a raw mesh.
+-- The fault of two counts, and the first fault of a raw mesh. Source: the limits, the rules and their order are our own.
 use Rattle.std.specs.Prelude.{◌≡◌, ◌≢◌, ℕ, ◌-◌, ◌<◌, ◌≤◌, ◌⊎◌, ℤ, pos, ◌<ℤ◌, nat_lt, if◌then◌else◌, List, [], length, take, All, slice_index_or, Option, Some, None}
 use Rattle.vec_exact.specs.declared.RawMesh.{RawMesh}
 use Rattle.vec_exact.specs.declared.Vec3.{Vec3}

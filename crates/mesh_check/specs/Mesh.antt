@@ -1,4 +1,4 @@
--- Meshes as contracts see them: the nodes, and the faces by the numbers of their nodes, as in a raw mesh.
+-- Meshes as contracts see them: the nodes, and the faces by the numbers of their nodes, as in a raw mesh. Source: our own.
 use Rattle.std.specs.Prelude.{ℕ, ◌-◌, ◌≤◌, ℤ, pos, unsigned_abs, List, [], length, All, slice_index_or}
 use Rattle.vec_exact.specs.declared.RawMesh.{RawMesh}
 use Rattle.vec_exact.specs.declared.Vec3.{Vec3}

@@ -19,7 +19,10 @@ use std::alloc::{AllocError, Global};
 use std::marker::Model;
 use vec_exact::{Faces, Ints, NoMemory, Nodes, RawMesh, Vec3, cross};
 
-/// A mesh whose faces are all accepted.
+/// A mesh whose faces are all accepted: each has 3 to 16 nodes and is strictly convex.
+///
+/// It has at least one face, its counts pass `check_counts`, and each of its nodes, also one of no
+/// face, is not the zero triple and has components of at most 262,143 in size.
 #[derive(Drop)]
 pub struct Mesh {
     nodes: Vec<[i32; 3]>,

@@ -1,5 +1,5 @@
 // That a mesh comes where it is to, and worked faults.
-ghost use Rattle.std.specs.Prelude.{◌≡◌, ◌×◌, IfOk, length};
+ghost use Rattle.std.specs.Prelude.{◌≡◌, IfOk, length};
 
 use super::*;
 use std::alloc::{AllocError, Global};

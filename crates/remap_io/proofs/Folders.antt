@@ -25,10 +25,10 @@ equal Greater p = cc
 same_name : (a b : List ℕ) → eq_by_cmp names a b ≡ true → a ≡ b
 same_name a b h = exact_bytes a b (equal _ h)
 
-tied : (a : List ℕ) → eq_by_cmp names a a ≡ true
+pub tied : (a : List ℕ) → eq_by_cmp names a a ≡ true
 tied a = ap is_eq (tied_itself nat_list_cmp_total a)
 
-other_name : (a b : List ℕ) → a ≢ b → eq_by_cmp names a b ≡ false
+pub other_name : (a b : List ℕ) → a ≢ b → eq_by_cmp names a b ≡ false
 other_name a b ne = elim (eq_by_cmp names a b) as (λ t. eq_by_cmp names a b ≡ t → t ≡ false) [ true ↦ λ h. absurd (ne (same_name a b h)) | false ↦ λ h. refl ] refl
 
 -- an entry of another name is passed over

@@ -2,12 +2,12 @@
 use Rattle.std.specs.Prelude.{◌≡◌, ℕ, ◌+◌, ◌-◌, ◌^◌, ◌≤◌, min}
 
 -- a count that was raised by a number, and held at its last value
-abbrev pub raised : ℕ → ℕ → ℕ
-raised count more = min (count + more) (2 ^ 64 - 1)
+abbrev pub held_sum : ℕ → ℕ → ℕ
+held_sum count more = min (count + more) (2 ^ 64 - 1)
 
 -- a count rose in a call: it is greater at the exit than at the entry, or stands at its last value there
 abbrev pub Rose : ℕ → ℕ → Type 0
-Rose before now = raised before 1 ≤ now
+Rose before now = held_sum before 1 ≤ now
 
 -- a count never falls, and one that stands at its last value stays there
 abbrev pub IsLater : ℕ → ℕ → Type 0

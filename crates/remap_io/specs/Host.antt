@@ -1,6 +1,6 @@
--- What is told of the real files: counts, and nothing of what they hold.
-use Rattle.std.specs.Prelude.{ℕ}
-use Rattle.remap_io.specs.Causes.{raised}
+-- What is told of the real files and writers: counts, and nothing of what files hold.
+use Rattle.std.specs.Prelude.{ℕ, List, Option}
+use Rattle.remap_io.specs.Causes.{held_sum}
 
 -- the counts of a `HostFiles`
 pub record HostCounts : Type 0 where
@@ -10,5 +10,10 @@ pub record HostCounts : Type 0 where
   pub taken : ℕ
 
 -- the counts after a call that asked for so many bytes
-abbrev pub asked_for : HostCounts → ℕ → HostCounts
-asked_for counts asked = record counts { taken = raised counts.taken asked }
+abbrev pub with_asked : HostCounts → ℕ → HostCounts
+with_asked counts asked = record counts { taken = held_sum counts.taken asked }
+
+-- a `HostSink`: the bytes that its writer holds, where they are known of such a writer, and its count
+pub record WriterState : Type 0 where
+  pub written : Option (List ℕ)
+  pub faults : ℕ

@@ -1,8 +1,8 @@
 // The real files and writers, of whose content nothing is told.
 ghost use Rattle.std.specs.Io.KnownBytes.{Appends};
 ghost use Rattle.std.specs.Prelude.{◌≡◌, length, OnOk, OnErr, IsErrOf, IsOkUnless};
-ghost use Rattle.remap_io.specs.Causes.{raised, IsLater};
-ghost use Rattle.remap_io.specs.Host.{asked_for};
+ghost use Rattle.remap_io.specs.Causes.{held_sum, IsLater};
+ghost use Rattle.remap_io.specs.Host.{with_asked};
 
 use crate::files::{FileErr, Files, PutErr};
 use crate::sink::Sink;
@@ -26,7 +26,12 @@ impl<R: std::rt::Files> Model for HostFiles<R> {
 
     ghost Value = { HostCounts };
 
-    ghost view = { λ s. record { faults = s.faults; write_faults = s.write_faults; misses = s.misses; taken = s.taken } };
+    ghost view = { λ s. record {
+      faults = s.faults;
+      write_faults = s.write_faults;
+      misses = s.misses;
+      taken = s.taken;
+    } };
 }
 
 impl<R: std::rt::Files> HostFiles<R> {
@@ -45,8 +50,10 @@ impl<R: std::rt::Files> HostFiles<R> {
 
     // Counts a miss, or a fault.
     fn missed_or_failed(&mut self, error: io::Error) -> FileErr
-        ensures absent { result ≡ FileErr.Absent → self.new ≡ record self.old { misses = raised self.old.misses 1 } }
-        ensures failed { result ≡ FileErr.Failed → self.new ≡ record self.old { faults = raised self.old.faults 1 } }
+        ensures absent { result ≡ FileErr.Absent → self.new ≡
+            record self.old { misses = held_sum self.old.misses 1 } }
+        ensures failed { result ≡ FileErr.Failed → self.new ≡
+            record self.old { faults = held_sum self.old.faults 1 } }
         ensures not_memory { ¬ (result ≡ FileErr.NoMemory) }
         ensures later_faults { IsLater self.old.faults self.new.faults }
         ensures later_misses { IsLater self.old.misses self.new.misses }
@@ -83,8 +90,10 @@ impl<R: std::rt::Files> Files for HostFiles<R> {
 
     fn size(&mut self, name: &str) -> Result<u64, FileErr>
         ensures ok { OnOk result (self.new ≡ self.old) }
-        ensures absent { IsErrOf result FileErr.Absent → self.new ≡ record self.old { misses = raised self.old.misses 1 } }
-        ensures failed { IsErrOf result FileErr.Failed → self.new ≡ record self.old { faults = raised self.old.faults 1 } }
+        ensures absent { IsErrOf result FileErr.Absent → self.new ≡
+            record self.old { misses = held_sum self.old.misses 1 } }
+        ensures failed { IsErrOf result FileErr.Failed → self.new ≡
+            record self.old { faults = held_sum self.old.faults 1 } }
         ensures no_other { ¬ IsErrOf result FileErr.NoMemory }
         ensures later_faults { IsLater self.old.faults self.new.faults }
         ensures later_misses { IsLater self.old.misses self.new.misses }
@@ -96,9 +105,11 @@ impl<R: std::rt::Files> Files for HostFiles<R> {
     }
 
     fn read_at(&mut self, name: &str, at: u64, buf: &mut [u8]) -> Result<(), FileErr>
-        ensures ok { OnOk result (self.new ≡ asked_for self.old (length buf.old)) }
-        ensures absent { IsErrOf result FileErr.Absent → self.new ≡ record (asked_for self.old (length buf.old)) { misses = raised self.old.misses 1 } }
-        ensures failed { IsErrOf result FileErr.Failed → self.new ≡ record (asked_for self.old (length buf.old)) { faults = raised self.old.faults 1 } }
+        ensures ok { OnOk result (self.new ≡ with_asked self.old (length buf.old)) }
+        ensures absent { IsErrOf result FileErr.Absent → self.new ≡
+            record (with_asked self.old (length buf.old)) { misses = held_sum self.old.misses 1 } }
+        ensures failed { IsErrOf result FileErr.Failed → self.new ≡
+            record (with_asked self.old (length buf.old)) { faults = held_sum self.old.faults 1 } }
         ensures no_other { ¬ IsErrOf result FileErr.NoMemory }
         ensures later_faults { IsLater self.old.faults self.new.faults }
         ensures later_misses { IsLater self.old.misses self.new.misses }
@@ -113,7 +124,8 @@ impl<R: std::rt::Files> Files for HostFiles<R> {
 
     fn replace(&mut self, name: &str, bytes: &[u8]) -> Result<(), PutErr>
         ensures ok { OnOk result (self.new ≡ self.old) }
-        ensures failed { OnErr result (self.new ≡ record self.old { write_faults = raised self.old.write_faults 1 }) }
+        ensures failed { OnErr result (self.new ≡
+            record self.old { write_faults = held_sum self.old.write_faults 1 }) }
         ensures only_failed { IsOkUnless result PutErr.Failed }
         ensures later_write_faults { IsLater self.old.write_faults self.new.write_faults }
     {
@@ -135,18 +147,17 @@ pub struct HostSink<W: Write> {
 }
 
 impl<W: Write> Model for HostSink<W> {
-    ghost use Rattle.std.specs.Prelude.{ℕ};
+    ghost use Rattle.remap_io.specs.Host.{WriterState};
 
-    // How many puts failed.
-    ghost Value = { ℕ };
+    ghost Value = { WriterState };
 
-    ghost view = { λ s. s.faults };
+    ghost view = { λ s. record { written = W.contents s.writer; faults = s.faults } };
 }
 
 impl<W: Write> HostSink<W> {
     /// The sink over this writer, with no fault yet.
     pub fn new(w: W) -> HostSink<W>
-        ensures { result ≡ 0 }
+        ensures { result ≡ record { written = W.contents w; faults = 0 } }
     {
         HostSink {
             writer: w,
@@ -168,15 +179,16 @@ impl<W: Write> Sink for HostSink<W> {
 
     ghost contents = { λ _. None };
 
-    ghost faults = { λ s. s };
+    ghost faults = { λ s. s.faults };
 
     ghost refusals = { λ _. 0 };
 
     fn put(&mut self, bytes: &[u8]) -> Result<(), PutErr>
-        ensures ok { OnOk result (self.new ≡ self.old) }
-        ensures failed { OnErr result (self.new ≡ raised self.old 1) }
+        ensures written { OnOk result (Appends self.old.written self.new.written bytes.now) }
+        ensures ok { OnOk result (self.new.faults ≡ self.old.faults) }
+        ensures failed { OnErr result (self.new.faults ≡ held_sum self.old.faults 1) }
         ensures only_failed { IsOkUnless result PutErr.Failed }
-        ensures later_faults { IsLater self.old self.new }
+        ensures later_faults { IsLater self.old.faults self.new.faults }
     {
         match write_out(&mut self.writer, bytes) {
             Ok(()) => Ok(()),

@@ -1,9 +1,9 @@
 // Files in memory, whose calls of given numbers fail.
 ghost use Rattle.std.specs.Prelude.{◌≡◌, ◌+◌, ◌≤◌, ◌↔◌, length, slice_range, IfSome, IsSomeAnd, IfOk, IsErr, OnOk, OnErr, IsErrOf, IsOkUnless, option_copied};
 ghost use Rattle.std.specs.FinMap as map;
-ghost use Rattle.remap_io.specs.Causes.{raised, IsLater};
+ghost use Rattle.remap_io.specs.Causes.{IsLater};
 ghost use Rattle.remap_io.specs.Folder.{file_at, with_file};
-ghost use Rattle.remap_io.specs.Memory.{IsToFail, called, called_for, torn_folder};
+ghost use Rattle.remap_io.specs.Memory.{IsToFail, after_call, after_read, with_miss, with_fault, with_folder, with_torn_file};
 
 use crate::files::{FileErr, Files, PutErr};
 use crate::schedule::Schedule;
@@ -60,7 +60,16 @@ impl Model for MemFiles {
 impl MemFiles {
     /// No files yet, and all counts 0. `fail` has the numbers of the calls that are to fail.
     pub fn new(alloc: Global, fail: Vec<u32>) -> MemFiles
-        ensures { result ≡ record { folder = map.empty; fail = fail.items; calls = 0; torn = Torn.Old; faults = 0; write_faults = 0; misses = 0; taken = 0 } }
+        ensures { result ≡ record {
+          folder = map.empty;
+          fail = fail.items;
+          calls = 0;
+          torn = Torn.Old;
+          faults = 0;
+          write_faults = 0;
+          misses = 0;
+          taken = 0;
+        } }
     {
         MemFiles {
             alloc,
@@ -83,7 +92,8 @@ impl MemFiles {
 
     /// Places a file, without a counted call. The error is NoMemory, and then nothing is changed.
     pub fn put_file(&mut self, name: &str, bytes: &[u8]) -> Result<(), PutErr>
-        ensures ok { OnOk result (self.new ≡ record self.old { folder = with_file self.old.folder name.now bytes.now }) }
+        ensures ok { OnOk result (self.new ≡
+            with_folder self.old (with_file self.old.folder name.now bytes.now)) }
         ensures err { OnErr result (self.new ≡ self.old) }
         ensures never_failed { IsOkUnless result PutErr.NoMemory }
     {
@@ -122,37 +132,44 @@ impl Files for MemFiles {
     ghost taken = { λ s. s.taken };
 
     fn size(&mut self, name: &str) -> Result<u64, FileErr>
-        ensures answer { IfOk result (λ n. IsSomeAnd (file_at self.old.folder name.now) (λ bytes. n ≡ length bytes)) }
-        ensures ok { OnOk result (self.new ≡ called self.old) }
-        ensures absent_there { IsErrOf result FileErr.Absent → file_at self.old.folder name.now ≡ None }
-        ensures absent { IsErrOf result FileErr.Absent → self.new ≡ record (called self.old) { misses = raised self.old.misses 1 } }
-        ensures listed { IsErrOf result FileErr.Failed ↔ IsToFail self.old.fail self.old.calls }
-        ensures failed { IsErrOf result FileErr.Failed → self.new ≡ record (called self.old) { faults = raised self.old.faults 1 } }
+        ensures answer { IfOk result (λ n.
+            IsSomeAnd (file_at self.old.folder name.now) (λ bytes. n ≡ length bytes)) }
+        ensures ok { OnOk result (self.new ≡ after_call self.old) }
+        ensures absent_there { IsErrOf result FileErr.Absent →
+            file_at self.old.folder name.now ≡ None }
+        ensures absent { IsErrOf result FileErr.Absent →
+            self.new ≡ with_miss (after_call self.old) }
+        ensures listed { IsErrOf result FileErr.Failed ↔
+            IsToFail self.old.fail self.old.calls }
+        ensures failed { IsErrOf result FileErr.Failed →
+            self.new ≡ with_fault (after_call self.old) }
         ensures needs_no_memory { ¬ IsErrOf result FileErr.NoMemory }
         ensures later_faults { IsLater self.old.faults self.new.faults }
         ensures later_misses { IsLater self.old.misses self.new.misses }
     {
         if self.schedule.next_fails() {
-            self.faults = self.faults.saturating_add(1);
-            return Err(FileErr::Failed);
+            return Err(self.fault());
         }
         match store::bytes_of(&self.files, name) {
             Some(bytes) => Ok(bytes.len() as u64),
-            None => {
-                self.misses = self.misses.saturating_add(1);
-                Err(FileErr::Absent)
-            }
+            None => Err(self.miss()),
         }
     }
 
     fn read_at(&mut self, name: &str, at: u64, buf: &mut [u8]) -> Result<(), FileErr>
-        requires in_file { IfSome (file_at self.old.folder name.now) (λ bytes. at + length buf.old ≤ length bytes) }
-        ensures filled { OnOk result (IsSomeAnd (file_at self.old.folder name.now) (λ bytes. buf.new ≡ slice_range bytes at (at + length buf.old))) }
-        ensures ok { OnOk result (self.new ≡ called_for self.old (length buf.old)) }
-        ensures absent_there { IsErrOf result FileErr.Absent → file_at self.old.folder name.now ≡ None }
-        ensures absent { IsErrOf result FileErr.Absent → self.new ≡ record (called_for self.old (length buf.old)) { misses = raised self.old.misses 1 } }
-        ensures listed { IsErrOf result FileErr.Failed ↔ IsToFail self.old.fail self.old.calls }
-        ensures failed { IsErrOf result FileErr.Failed → self.new ≡ record (called_for self.old (length buf.old)) { faults = raised self.old.faults 1 } }
+        requires in_file { IfSome (file_at self.old.folder name.now) (λ bytes.
+            at + length buf.old ≤ length bytes) }
+        ensures filled { OnOk result (IsSomeAnd (file_at self.old.folder name.now) (λ bytes.
+            buf.new ≡ slice_range bytes at (at + length buf.old))) }
+        ensures ok { OnOk result (self.new ≡ after_read self.old (length buf.old)) }
+        ensures absent_there { IsErrOf result FileErr.Absent →
+            file_at self.old.folder name.now ≡ None }
+        ensures absent { IsErrOf result FileErr.Absent →
+            self.new ≡ with_miss (after_read self.old (length buf.old)) }
+        ensures listed { IsErrOf result FileErr.Failed ↔
+            IsToFail self.old.fail self.old.calls }
+        ensures failed { IsErrOf result FileErr.Failed →
+            self.new ≡ with_fault (after_read self.old (length buf.old)) }
         ensures needs_no_memory { ¬ IsErrOf result FileErr.NoMemory }
         ensures later_faults { IsLater self.old.faults self.new.faults }
         ensures later_misses { IsLater self.old.misses self.new.misses }
@@ -160,8 +177,7 @@ impl Files for MemFiles {
     {
         self.taken = self.taken.saturating_add(buf.len() as u64);
         if self.schedule.next_fails() {
-            self.faults = self.faults.saturating_add(1);
-            return Err(FileErr::Failed);
+            return Err(self.fault());
         }
         match store::bytes_of(&self.files, name) {
             Some(bytes) => {
@@ -169,44 +185,63 @@ impl Files for MemFiles {
                 buf.copy_from_slice(&bytes[at..at + buf.len()]);
                 Ok(())
             }
-            None => {
-                self.misses = self.misses.saturating_add(1);
-                Err(FileErr::Absent)
-            }
+            None => Err(self.miss()),
         }
     }
 
     fn replace(&mut self, name: &str, bytes: &[u8]) -> Result<(), PutErr>
-        ensures ok { OnOk result (self.new ≡ record (called self.old) { folder = with_file self.old.folder name.now bytes.now }) }
+        ensures ok { OnOk result (self.new ≡
+            with_folder (after_call self.old) (with_file self.old.folder name.now bytes.now)) }
         ensures listed { IsToFail self.old.fail self.old.calls → IsErr result }
-        ensures only_listed { IsErrOf result PutErr.Failed → IsToFail self.old.fail self.old.calls }
-        ensures failed { IsErrOf result PutErr.Failed → self.new ≡ record (called self.old) { write_faults = raised self.old.write_faults 1; folder = torn_folder self.old.torn self.old.folder name.now bytes.now } }
-        ensures no_memory { IsErrOf result PutErr.NoMemory → self.new ≡ called self.old }
-        ensures stores_nothing { IsToFail self.old.fail self.old.calls → self.old.torn ≡ Torn.Old → result ≡ Err PutErr.Failed }
+        ensures only_listed { IsErrOf result PutErr.Failed →
+            IsToFail self.old.fail self.old.calls }
+        ensures failed { IsErrOf result PutErr.Failed → self.new ≡
+            with_torn_file (after_call self.old) name.now bytes.now }
+        ensures no_memory { IsErrOf result PutErr.NoMemory → self.new ≡ after_call self.old }
+        ensures stores_nothing { IsToFail self.old.fail self.old.calls →
+            self.old.torn ≡ Torn.Old → result ≡ Err PutErr.Failed }
         ensures later_write_faults { IsLater self.old.write_faults self.new.write_faults }
     {
         if self.schedule.next_fails() {
             return Err(self.fail_to_replace(name, bytes));
         }
-        match store::put(self.alloc, &mut self.files, name, bytes) {
-            Ok(()) => Ok(()),
-            Err(_) => Err(PutErr::NoMemory),
-        }
+        self.put_file(name, bytes)
     }
 }
 
 impl MemFiles {
+    // Counts a failed read.
+    fn fault(&mut self) -> FileErr
+        ensures fault { result ≡ FileErr.Failed }
+        ensures counted { self.new ≡ with_fault self.old }
+        ensures later_faults { IsLater self.old.faults self.new.faults }
+    {
+        self.faults = self.faults.saturating_add(1);
+        FileErr::Failed
+    }
+
+    // Counts a name that isn't there.
+    fn miss(&mut self) -> FileErr
+        ensures miss { result ≡ FileErr.Absent }
+        ensures counted { self.new ≡ with_miss self.old }
+        ensures later_misses { IsLater self.old.misses self.new.misses }
+    {
+        self.misses = self.misses.saturating_add(1);
+        FileErr::Absent
+    }
+
     // Leaves what a failing replacement leaves, and counts it.
     fn fail_to_replace(&mut self, name: &str, bytes: &[u8]) -> PutErr
-        ensures failed { result ≡ PutErr.Failed → self.new ≡ record self.old { write_faults = raised self.old.write_faults 1; folder = torn_folder self.old.torn self.old.folder name.now bytes.now } }
+        ensures failed { result ≡ PutErr.Failed → self.new ≡
+            with_torn_file self.old name.now bytes.now }
         ensures no_memory { result ≡ PutErr.NoMemory → self.new ≡ self.old }
         ensures old { self.old.torn ≡ Torn.Old → result ≡ PutErr.Failed }
         ensures later_write_faults { IsLater self.old.write_faults self.new.write_faults }
     {
         if let Torn::First(n) = self.torn {
             let n = (n as usize).min(bytes.len());
-            if store::put(self.alloc, &mut self.files, name, &bytes[..n]).is_err() {
-                return PutErr::NoMemory;
+            if let Err(error) = self.put_file(name, &bytes[..n]) {
+                return error;
             }
         }
         self.write_faults = self.write_faults.saturating_add(1);

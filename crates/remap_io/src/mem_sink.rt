@@ -1,7 +1,7 @@
 // A sink in memory, whose puts of given numbers fail.
-ghost use Rattle.std.specs.Prelude.{◌≡◌, ◌++◌, [], take, IsErr, IsOk, OnOk, OnErr, IsErrOf, IsOkUnless};
-ghost use Rattle.remap_io.specs.Causes.{raised, IsLater};
-ghost use Rattle.remap_io.specs.Memory.{IsToFail, put_called};
+ghost use Rattle.std.specs.Prelude.{◌≡◌, [], take, IsErr, IsOk, OnOk, OnErr, IsErrOf, IsOkUnless};
+ghost use Rattle.remap_io.specs.Causes.{IsLater};
+ghost use Rattle.remap_io.specs.Memory.{IsToFail, after_put, with_bytes, with_torn_bytes, with_refusal};
 
 use crate::files::PutErr;
 use crate::schedule::Schedule;
@@ -38,7 +38,14 @@ impl Model for MemSink {
 impl MemSink {
     /// Nothing held yet, and all counts 0. `fail` has the numbers of the puts that are to fail.
     pub fn new(alloc: Global, fail: Vec<u32>) -> MemSink
-        ensures { result ≡ record { bytes = []; fail = fail.items; calls = 0; torn = 0; faults = 0; refusals = 0 } }
+        ensures { result ≡ record {
+          bytes = [];
+          fail = fail.items;
+          calls = 0;
+          torn = 0;
+          faults = 0;
+          refusals = 0;
+        } }
     {
         MemSink {
             held: Vec::new(alloc),
@@ -74,12 +81,16 @@ impl Sink for MemSink {
     ghost refusals = { λ s. s.refusals };
 
     fn put(&mut self, bytes: &[u8]) -> Result<(), PutErr>
-        ensures ok { OnOk result (self.new ≡ record (put_called self.old) { bytes = self.old.bytes ++ bytes.now }) }
+        ensures ok { OnOk result (self.new ≡ with_bytes (after_put self.old) bytes.now) }
         ensures listed { IsToFail self.old.fail self.old.calls → IsErr result }
-        ensures only_listed { IsErrOf result PutErr.Failed → IsToFail self.old.fail self.old.calls }
-        ensures failed { IsErrOf result PutErr.Failed → self.new ≡ record (put_called self.old) { bytes = self.old.bytes ++ take self.old.torn bytes.now; faults = raised self.old.faults 1 } }
-        ensures no_memory { IsErrOf result PutErr.NoMemory → self.new ≡ record (put_called self.old) { refusals = raised self.old.refusals 1 } }
-        ensures stores_nothing { IsToFail self.old.fail self.old.calls → take self.old.torn bytes.now ≡ [] → result ≡ Err PutErr.Failed }
+        ensures only_listed { IsErrOf result PutErr.Failed →
+            IsToFail self.old.fail self.old.calls }
+        ensures failed { IsErrOf result PutErr.Failed → self.new ≡
+            with_torn_bytes (after_put self.old) bytes.now }
+        ensures no_memory { IsErrOf result PutErr.NoMemory →
+            self.new ≡ with_refusal (after_put self.old) }
+        ensures stores_nothing { IsToFail self.old.fail self.old.calls →
+            take self.old.torn bytes.now ≡ [] → result ≡ Err PutErr.Failed }
         ensures later_faults { IsLater self.old.faults self.new.faults }
         ensures later_refusals { IsLater self.old.refusals self.new.refusals }
     {
@@ -93,8 +104,8 @@ impl Sink for MemSink {
 impl MemSink {
     // Appends these bytes, or counts that memory ran out.
     fn append(&mut self, bytes: &[u8]) -> Result<(), PutErr>
-        ensures ok { OnOk result (self.new ≡ record self.old { bytes = self.old.bytes ++ bytes.now }) }
-        ensures err { OnErr result (self.new ≡ record self.old { refusals = raised self.old.refusals 1 }) }
+        ensures ok { OnOk result (self.new ≡ with_bytes self.old bytes.now) }
+        ensures err { OnErr result (self.new ≡ with_refusal self.old) }
         ensures no_other { IsOkUnless result PutErr.NoMemory }
         ensures nothing { bytes.now ≡ [] → IsOk result }
         ensures later_refusals { IsLater self.old.refusals self.new.refusals }
@@ -108,8 +119,8 @@ impl MemSink {
 
     // Appends what a failing put appends, and counts it.
     fn fail_to_put(&mut self, bytes: &[u8]) -> PutErr
-        ensures failed { result ≡ PutErr.Failed → self.new ≡ record self.old { bytes = self.old.bytes ++ take self.old.torn bytes.now; faults = raised self.old.faults 1 } }
-        ensures no_memory { result ≡ PutErr.NoMemory → self.new ≡ record self.old { refusals = raised self.old.refusals 1 } }
+        ensures failed { result ≡ PutErr.Failed → self.new ≡ with_torn_bytes self.old bytes.now }
+        ensures no_memory { result ≡ PutErr.NoMemory → self.new ≡ with_refusal self.old }
         ensures nothing { take self.old.torn bytes.now ≡ [] → result ≡ PutErr.Failed }
         ensures later_faults { IsLater self.old.faults self.new.faults }
         ensures later_refusals { IsLater self.old.refusals self.new.refusals }

@@ -22,7 +22,8 @@ pub trait Sink {
         ensures ok { OnOk result (Gains (contents self.old) (contents self.new) bytes.now) }
         ensures err { OnErr result (GainsPart (contents self.old) (contents self.new) bytes.now) }
         ensures failed { IsErrOf result PutErr.Failed → Rose (faults self.old) (faults self.new) }
-        ensures no_memory { IsErrOf result PutErr.NoMemory → Rose (refusals self.old) (refusals self.new) }
+        ensures no_memory { IsErrOf result PutErr.NoMemory →
+            Rose (refusals self.old) (refusals self.new) }
         ensures later_faults { IsLater (faults self.old) (faults self.new) }
         ensures later_refusals { IsLater (refusals self.old) (refusals self.new) };
 }

@@ -1,7 +1,7 @@
 // Files and a sink in memory that never fail for another cause than memory.
 ghost use Rattle.std.specs.Prelude.{◌≡◌, ◌+◌, ◌≤◌, ◌++◌, [], length, slice_range, IfSome, IsSomeAnd, IfOk, OnOk, OnErr, IsOkUnless, option_copied};
 ghost use Rattle.std.specs.FinMap as map;
-ghost use Rattle.remap_io.specs.Causes.{raised, IsLater};
+ghost use Rattle.remap_io.specs.Causes.{held_sum, IsLater};
 ghost use Rattle.remap_io.specs.Folder.{file_at, with_file};
 
 use crate::files::{FileErr, Files, PutErr};
@@ -29,7 +29,11 @@ impl Model for SteadyFiles {
 
     ghost coded = { Prim.hlevel (codes, folder_code) };
 
-    ghost view = { λ s. record { folder = folder_of s.files.items; misses = s.misses; taken = s.taken } };
+    ghost view = { λ s. record {
+      folder = folder_of s.files.items;
+      misses = s.misses;
+      taken = s.taken;
+    } };
 }
 
 impl SteadyFiles {
@@ -74,10 +78,12 @@ impl Files for SteadyFiles {
     ghost taken = { λ s. s.taken };
 
     fn size(&mut self, name: &str) -> Result<u64, FileErr>
-        ensures answer { IfOk result (λ n. IsSomeAnd (file_at self.old.folder name.now) (λ bytes. n ≡ length bytes)) }
+        ensures answer { IfOk result (λ n. IsSomeAnd (file_at self.old.folder name.now) (λ bytes.
+            n ≡ length bytes)) }
         ensures ok { OnOk result (self.new ≡ self.old) }
         ensures absent_there { OnErr result (file_at self.old.folder name.now ≡ None) }
-        ensures absent { OnErr result (self.new ≡ record self.old { misses = raised self.old.misses 1 }) }
+        ensures absent { OnErr result (self.new ≡
+            record self.old { misses = held_sum self.old.misses 1 }) }
         ensures only_absent { IsOkUnless result FileErr.Absent }
         ensures later_misses { IsLater self.old.misses self.new.misses }
     {
@@ -91,11 +97,18 @@ impl Files for SteadyFiles {
     }
 
     fn read_at(&mut self, name: &str, at: u64, buf: &mut [u8]) -> Result<(), FileErr>
-        requires in_file { IfSome (file_at self.old.folder name.now) (λ bytes. at + length buf.old ≤ length bytes) }
-        ensures filled { OnOk result (IsSomeAnd (file_at self.old.folder name.now) (λ bytes. buf.new ≡ slice_range bytes at (at + length buf.old))) }
-        ensures ok { OnOk result (self.new ≡ record self.old { taken = raised self.old.taken (length buf.old) }) }
+        requires in_file { IfSome (file_at self.old.folder name.now) (λ bytes.
+            at + length buf.old ≤ length bytes) }
+        ensures filled { OnOk result (IsSomeAnd (file_at self.old.folder name.now) (λ bytes.
+            buf.new ≡ slice_range bytes at (at + length buf.old))) }
+        ensures ok { OnOk result (self.new ≡
+            record self.old { taken = held_sum self.old.taken (length buf.old) }) }
         ensures absent_there { OnErr result (file_at self.old.folder name.now ≡ None) }
-        ensures absent { OnErr result (self.new ≡ record self.old { taken = raised self.old.taken (length buf.old); misses = raised self.old.misses 1 }) }
+        ensures absent { OnErr result (self.new ≡
+            record self.old {
+              taken = held_sum self.old.taken (length buf.old);
+              misses = held_sum self.old.misses 1;
+            }) }
         ensures only_absent { IsOkUnless result FileErr.Absent }
         ensures later_misses { IsLater self.old.misses self.new.misses }
         ensures later_taken { IsLater self.old.taken self.new.taken }
@@ -115,7 +128,8 @@ impl Files for SteadyFiles {
     }
 
     fn replace(&mut self, name: &str, bytes: &[u8]) -> Result<(), PutErr>
-        ensures ok { OnOk result (self.new ≡ record self.old { folder = with_file self.old.folder name.now bytes.now }) }
+        ensures ok { OnOk result (self.new ≡
+            record self.old { folder = with_file self.old.folder name.now bytes.now }) }
         ensures err { OnErr result (self.new ≡ self.old) }
         ensures never_failed { IsOkUnless result PutErr.NoMemory }
     {
@@ -170,8 +184,10 @@ impl Sink for SteadySink {
     ghost refusals = { λ s. s.refusals };
 
     fn put(&mut self, bytes: &[u8]) -> Result<(), PutErr>
-        ensures ok { OnOk result (self.new ≡ record self.old { bytes = self.old.bytes ++ bytes.now }) }
-        ensures err { OnErr result (self.new ≡ record self.old { refusals = raised self.old.refusals 1 }) }
+        ensures ok { OnOk result (self.new ≡
+            record self.old { bytes = self.old.bytes ++ bytes.now }) }
+        ensures err { OnErr result (self.new ≡
+            record self.old { refusals = held_sum self.old.refusals 1 }) }
         ensures never_failed { IsOkUnless result PutErr.NoMemory }
         ensures later_refusals { IsLater self.old.refusals self.new.refusals }
     {

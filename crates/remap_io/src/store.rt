@@ -31,7 +31,8 @@ pub fn put(
     name: &str,
     bytes: &[u8],
 ) -> Result<(), AllocError>
-    ensures ok { OnOk result (folder_of files.new.items ≡ with_file (folder_of files.old.items) name.now bytes.now) }
+    ensures ok { OnOk result (folder_of files.new.items ≡
+        with_file (folder_of files.old.items) name.now bytes.now) }
     ensures err { OnErr result (folder_of files.new.items ≡ folder_of files.old.items) }
 {
     let copy = Vec::from_slice(alloc, bytes)?;
@@ -45,7 +46,8 @@ fn hold(
     name: &str,
     bytes: Vec<u8>,
 ) -> Result<(), AllocError>
-    ensures ok { OnOk result (folder_of files.new.items ≡ with_file (folder_of files.old.items) name.now bytes.items) }
+    ensures ok { OnOk result (folder_of files.new.items ≡
+        with_file (folder_of files.old.items) name.now bytes.items) }
     ensures err { OnErr result (folder_of files.new.items ≡ folder_of files.old.items) }
 {
     for i in 0..files.len() {

@@ -7,19 +7,24 @@ use std::test::Fail;
 #[test]
 fn real_files_are_replaced_and_read(rt: HostRuntime) -> Result<(), Fail> {
     let mut files = HostFiles::new(rt);
-    assert_eq!(rt; files.size("none.g"), Err(FileErr::Absent));
-    assert_eq!(rt; files.replace("a.g", b"a longer text"), Ok(()));
-    assert_eq!(rt; files.replace("a.g", b"hello"), Ok(()));
-    assert_eq!(rt; files.size("a.g"), Ok(5));
     let mut part = [0u8; 3];
-    assert_eq!(rt; files.read_at("a.g", 1, &mut part), Ok(()));
+    assert_eq!(rt; files.size("no_such.tmp"), Err(FileErr::Absent));
+    assert_eq!(rt;
+        files.read_at("no_such.tmp", 0, &mut part),
+        Err(FileErr::Absent)
+    );
+    assert_eq!(rt;
+        files.replace("no_such/a.tmp", b"hello"),
+        Err(PutErr::Failed)
+    );
+    assert_eq!(rt; files.read_at(".", 0, &mut part), Err(FileErr::Failed));
+    assert_eq!(rt; files.replace("a.tmp", b"a longer text"), Ok(()));
+    assert_eq!(rt; files.replace("a.tmp", b"hello"), Ok(()));
+    assert_eq!(rt; files.size("a.tmp"), Ok(5));
+    assert_eq!(rt; files.read_at("a.tmp", 1, &mut part), Ok(()));
     assert_eq!(rt; part.as_slice(), b"ell".as_slice());
-    assert_eq!(rt; files.read_at("a.g", 3, &mut part), Err(FileErr::Failed));
-    assert_eq!(rt; files.read_at("none.g", 0, &mut part), Err(FileErr::Absent));
-    assert_eq!(rt; files.replace("none/a.g", b"hello"), Err(PutErr::Failed));
-    fs::create_dir(&rt, "folder")?;
-    assert_eq!(rt; files.read_at("folder", 0, &mut part), Err(FileErr::Failed));
-    assert_eq!(rt; files.replace("folder", b"hello"), Err(PutErr::Failed));
+    assert_eq!(rt; files.read_at("a.tmp", 3, &mut part), Err(FileErr::Failed));
+    fs::remove_file(&rt, "a.tmp")?;
     Ok(())
 }
 
@@ -72,29 +77,30 @@ fn a_real_writer_has_all_bytes_flushed(rt: HostRuntime) -> Result<(), Fail> {
 
 #[test]
 fn listed_calls_of_files_fail(rt: HostRuntime) -> Result<(), Fail> {
-    let alloc = rt.alloc();
-    let mut files = MemFiles::new(alloc, [2, 4, 5, 7].to_vec(alloc)?);
-    let mut part = [0u8; 2];
-    files.put_file("a.g", b"old").unwrap_or(());
-    assert_eq!(rt; files.size("a.g"), Ok(3), "call 1");
-    assert_eq!(rt; files.size("none.g"), Err(FileErr::Failed), "call 2");
-    assert_eq!(rt; files.size("none.g"), Err(FileErr::Absent), "call 3");
-    assert_eq!(rt;
-        files.read_at("a.g", 1, &mut part),
-        Err(FileErr::Failed),
-        "call 4"
-    );
-    assert_eq!(rt; files.replace("a.g", b"new"), Err(PutErr::Failed), "call 5");
-    assert_eq!(rt; files.get("a.g"), Some(b"old".as_slice()));
-    assert_eq!(rt; files.read_at("a.g", 1, &mut part), Ok(()), "call 6");
-    assert_eq!(rt; part.as_slice(), b"ld".as_slice());
+    for (listed, size, read, replaced, left) in [
+        (1, Err(FileErr::Failed), Ok(()), Ok(()), b"new"),
+        (2, Ok(3), Err(FileErr::Failed), Ok(()), b"new"),
+        (3, Ok(3), Ok(()), Err(PutErr::Failed), b"old"),
+        (4, Ok(3), Ok(()), Ok(()), b"new"),
+    ] {
+        let mut files = MemFiles::new(rt.alloc(), [listed].to_vec(rt.alloc())?);
+        assert_eq!(rt; files.put_file("a.g", b"old"), Ok(()));
+        assert_eq!(rt; files.size("a.g"), size);
+        assert_eq!(rt; files.read_at("a.g", 0, &mut []), read);
+        assert_eq!(rt; files.replace("a.g", b"new"), replaced);
+        assert_eq!(rt; files.get("a.g"), Some(left.as_slice()));
+    }
+    Ok(())
+}
+
+#[test]
+fn a_torn_replacement_leaves_a_prefix(rt: HostRuntime) -> Result<(), Fail> {
+    let mut files = MemFiles::new(rt.alloc(), [1].to_vec(rt.alloc())?);
     files.torn(Torn::First(2));
-    assert_eq!(rt; files.replace("a.g", b"new"), Err(PutErr::Failed), "call 7");
+    assert_eq!(rt; files.replace("a.g", b"new"), Err(PutErr::Failed));
     assert_eq!(rt; files.get("a.g"), Some(b"ne".as_slice()));
-    assert_eq!(rt; files.replace("b.g", b""), Ok(()), "call 8");
-    assert_eq!(rt; files.get("b.g"), Some(b"".as_slice()));
-    assert_eq!(rt; files.get("none.g"), None);
-    assert_eq!(rt; files.taken(), 4);
+    assert_eq!(rt; files.size("none.g"), Err(FileErr::Absent));
+    assert_eq!(rt; files.taken(), 0);
     Ok(())
 }
 

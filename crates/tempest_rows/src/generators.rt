@@ -1,0 +1,91 @@
+// The generators.
+use crate::runs::{Run, words_of};
+use remap_io::{SteadyFiles, SteadySink};
+use std::test::Fail;
+use tempest_top::{Status, run};
+
+// The smallest cubed sphere: header of 248 bytes, 8 nodes, 6 faces.
+pub const CS1: [u8; 440] = [
+    67, 68, 70, 2, 0, 0, 0, 0, 0, 0, 0, 10, 0, 0, 0, 6, 0, 0, 0, 7, 110, 117, 109, 95, 100, 105,
+    109, 0, 0, 0, 0, 3, 0, 0, 0, 9, 110, 117, 109, 95, 110, 111, 100, 101, 115, 0, 0, 0, 0, 0, 0,
+    8, 0, 0, 0, 8, 110, 117, 109, 95, 101, 108, 101, 109, 0, 0, 0, 6, 0, 0, 0, 10, 110, 117, 109,
+    95, 101, 108, 95, 98, 108, 107, 0, 0, 0, 0, 0, 1, 0, 0, 0, 14, 110, 117, 109, 95, 101, 108, 95,
+    105, 110, 95, 98, 108, 107, 49, 0, 0, 0, 0, 0, 6, 0, 0, 0, 15, 110, 117, 109, 95, 110, 111,
+    100, 95, 112, 101, 114, 95, 101, 108, 49, 0, 0, 0, 0, 4, 0, 0, 0, 0, 0, 0, 0, 0, 0, 0, 0, 11,
+    0, 0, 0, 2, 0, 0, 0, 5, 99, 111, 111, 114, 100, 0, 0, 0, 0, 0, 0, 2, 0, 0, 0, 0, 0, 0, 0, 1, 0,
+    0, 0, 0, 0, 0, 0, 0, 0, 0, 0, 4, 0, 0, 0, 96, 0, 0, 0, 0, 0, 0, 0, 248, 0, 0, 0, 8, 99, 111,
+    110, 110, 101, 99, 116, 49, 0, 0, 0, 2, 0, 0, 0, 4, 0, 0, 0, 5, 0, 0, 0, 0, 0, 0, 0, 0, 0, 0,
+    0, 4, 0, 0, 0, 96, 0, 0, 0, 0, 0, 0, 1, 88, 255, 255, 255, 255, 255, 255, 255, 255, 255, 255,
+    255, 255, 255, 255, 255, 255, 0, 0, 0, 1, 0, 0, 0, 1, 0, 0, 0, 1, 0, 0, 0, 1, 255, 255, 255,
+    255, 255, 255, 255, 255, 0, 0, 0, 1, 0, 0, 0, 1, 255, 255, 255, 255, 255, 255, 255, 255, 0, 0,
+    0, 1, 0, 0, 0, 1, 255, 255, 255, 255, 0, 0, 0, 1, 255, 255, 255, 255, 0, 0, 0, 1, 255, 255,
+    255, 255, 0, 0, 0, 1, 255, 255, 255, 255, 0, 0, 0, 1, 0, 0, 0, 5, 0, 0, 0, 7, 0, 0, 0, 8, 0, 0,
+    0, 6, 0, 0, 0, 7, 0, 0, 0, 3, 0, 0, 0, 4, 0, 0, 0, 8, 0, 0, 0, 3, 0, 0, 0, 1, 0, 0, 0, 2, 0, 0,
+    0, 4, 0, 0, 0, 1, 0, 0, 0, 5, 0, 0, 0, 6, 0, 0, 0, 2, 0, 0, 0, 6, 0, 0, 0, 8, 0, 0, 0, 4, 0, 0,
+    0, 2, 0, 0, 0, 1, 0, 0, 0, 3, 0, 0, 0, 7, 0, 0, 0, 5,
+];
+
+// The same words in other forms.
+const SMALLEST: [&str; 5] = [
+    "GenerateCSMesh --res 1 --file cs1.g",
+    "GenerateCSMesh --file cs1.g --res 1",
+    "GenerateCSMesh --res=1 --file=cs1.g",
+    "GenerateCSMesh --file=cs1.g --res 1",
+    "GenerateCSMesh --res 000001 --file cs1.g",
+];
+
+#[test]
+fn the_smallest_cubed_sphere_is_written(rt: HostRuntime) -> Result<(), Fail> {
+    for text in SMALLEST {
+        let mut row = Run::new(rt.alloc());
+        let status = row.go(&rt, rt.alloc(), text)?;
+        assert_eq!(rt; status, Status::Done, "at {text}");
+        assert_eq!(rt; row.files.get("cs1.g"), Some(CS1.as_slice()));
+        assert_eq!(rt; row.out.bytes(), b"faces 6 nodes 8\n".as_slice());
+        assert_eq!(rt; row.err.bytes(), b"".as_slice());
+    }
+    Ok(())
+}
+
+#[test]
+fn the_smallest_cubed_sphere_over_steady_types(rt: HostRuntime) -> Result<(), Fail> {
+    let alloc = rt.alloc();
+    let words = words_of(alloc, SMALLEST[0])?;
+    let mut files = SteadyFiles::new(alloc);
+    let mut out = SteadySink::new(alloc);
+    let mut err = SteadySink::new(alloc);
+    let status = run(&rt, alloc, &words, &mut files, &mut out, &mut err);
+    assert_eq!(rt; status, Status::Done);
+    assert_eq!(rt; files.get("cs1.g"), Some(CS1.as_slice()));
+    assert_eq!(rt; files.taken(), 0);
+    assert_eq!(rt; out.bytes(), b"faces 6 nodes 8\n".as_slice());
+    assert_eq!(rt; err.bytes(), b"".as_slice());
+    Ok(())
+}
+
+// Lengths of larger cubed spheres: words, text, bytes of the file.
+const LARGER: [(&str, &str, usize); 2] = [
+    (
+        "GenerateCSMesh --res 2 --file m.g",
+        "faces 24 nodes 26\n",
+        944,
+    ),
+    (
+        "GenerateCSMesh --res 60 --file m.g",
+        "faces 21600 nodes 21602\n",
+        605072,
+    ),
+];
+
+#[test]
+fn larger_cubed_spheres_have_their_length(rt: HostRuntime) -> Result<(), Fail> {
+    for (text, put, len) in LARGER {
+        let mut row = Run::new(rt.alloc());
+        let status = row.go(&rt, rt.alloc(), text)?;
+        assert_eq!(rt; status, Status::Done, "at {text}");
+        assert_eq!(rt; row.out.bytes(), put.as_bytes());
+        let written = row.files.get("m.g").map(|bytes| bytes.len());
+        assert_eq!(rt; written, Some(len), "at {text}");
+    }
+    Ok(())
+}

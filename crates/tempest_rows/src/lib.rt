@@ -1,0 +1,11 @@
+//! Worked rows: whole runs of the program, over files and sinks in memory. It has tests alone.
+#![tactic(auto)]
+
+#[cfg(test)]
+mod failing;
+#[cfg(test)]
+mod generators;
+#[cfg(test)]
+mod runs;
+#[cfg(test)]
+mod words;

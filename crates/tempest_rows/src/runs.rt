@@ -1,0 +1,51 @@
+// A run of the program, for the rows.
+use remap_io::{MemFiles, MemSink};
+use std::alloc::{AllocError, Global};
+use std::thread::Threads;
+use tempest_top::{Status, run};
+
+/// The words of a command line, parted at single spaces.
+pub(crate) fn words_of(alloc: Global, text: &str) -> Result<Vec<String>, AllocError> {
+    let mut words = Vec::new(alloc);
+    for word in text.split(' ') {
+        words.push(String::from_str(alloc, word)?)?;
+    }
+    Ok(words)
+}
+
+/// A run over files and sinks in memory.
+#[derive(Drop)]
+pub struct Run {
+    pub files: MemFiles,
+    pub out: MemSink,
+    pub err: MemSink,
+}
+
+impl Run {
+    /// Nothing is there, and no call fails.
+    pub(crate) fn new(alloc: Global) -> Run {
+        Run {
+            files: MemFiles::new(alloc, Vec::new(alloc)),
+            out: MemSink::new(alloc, Vec::new(alloc)),
+            err: MemSink::new(alloc, Vec::new(alloc)),
+        }
+    }
+
+    /// Runs the words.
+    pub(crate) fn go(
+        &mut self,
+        rt: &impl Threads,
+        alloc: Global,
+        text: &str,
+    ) -> Result<Status, AllocError> {
+        let words = words_of(alloc, text)?;
+        Ok(run(
+            rt,
+            alloc,
+            &words,
+            &mut self.files,
+            &mut self.out,
+            &mut self.err,
+        ))
+    }
+}
