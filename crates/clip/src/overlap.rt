@@ -13,6 +13,7 @@ pub struct Overlap {
     pub faces_a: u32,
     /// How many faces the target mesh has.
     pub faces_b: u32,
+    /// The pieces, in order.
     pub pieces: Pieces,
 }
 

@@ -17,6 +17,7 @@ pub fn start(planes: &PlaneList, m: u8) -> Ring
     ensures numbers { result.items ≡ range_with_len 1 m }
     ensures ring { IsRingOfFirst planes.now.items m result.items }
 {
+    // The call says that there are at most 32 planes, so the numbers fit.
     let _count = planes.len();
     let mut ring = Ring::new();
     for i in 0..m {
@@ -61,8 +62,8 @@ fn begin_with_least(ring: &mut Ring)
     turn(ring, first);
 }
 
-// Puts plane m into the gap behind place t, in place of the listed planes that have no positive
-// corner.
+// Puts plane m into the gap that begins behind the run of positive corners after place t, in place
+// of the planes whose corners are no part of that run. `planes` stands in the contract alone.
 fn fill_gap(planes: &PlaneList, ring: &mut Ring, sides: &[i128], m: u8, t: usize)
     requires room { 1 ≤ m × m ≤ 32 }
     requires cycle { IsCycle (plane planes.now.items) (m - 1) (length ring.old.items) (slice_index ring.old.items) }
@@ -98,6 +99,7 @@ pub fn cut(planes: &PlaneList, ring: &mut Ring, m: u8) -> bool
     ensures ring { IsTrue result → IsRingOfFirst planes.now.items m ring.new.items }
     ensures empty { result ≡ false → ring.new.items ≡ [] }
 {
+    // The call says that there are at most 32 planes, so one more number fits.
     let _count = planes.len();
     let all_sides = sides_of(planes, ring, plane_at(planes, m));
     let sides = all_sides.as_slice();

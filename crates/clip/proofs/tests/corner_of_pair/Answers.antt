@@ -1,4 +1,4 @@
-use Rattle.std.proofs.Common.{◌≡◌, ◌≤◌, ℕ, List, length, ap, sym, arith}
+use Rattle.std.proofs.Common.{length, ap, arith}
 use Rattle.vec_exact.specs.declared.Vec3.{Vec3}
 use Rattle.clip.proofs.tests.corner_of_pair.Goals as goal
 
