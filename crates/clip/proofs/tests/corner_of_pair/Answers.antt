@@ -1,0 +1,11 @@
+use Rattle.std.proofs.Common.{length, ap, arith}
+use Rattle.vec_exact.specs.declared.Vec3.{Vec3}
+use Rattle.clip.proofs.tests.corner_of_pair.Goals as goal
+
+pub corner-requires-clause-numbers : goal.corner-requires-clause-numbers
+corner-requires-clause-numbers c =
+    let r = c.requires.ring.cycle in
+    record {
+      least = r.least_number;
+      greatest = λ t l. omega (arith, r.greatest_number t l, ap (length {A = Vec3}) c.planes.ensures.planes);
+    }

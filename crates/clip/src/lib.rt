@@ -1,0 +1,17 @@
+//! Exact clipping: the ring of edge planes of two faces, made by adding one plane after another.
+#![tactic(auto)]
+
+mod lists;
+mod overlap;
+mod pairs;
+mod pieces;
+mod rings;
+mod sides;
+#[cfg(test)]
+mod tests;
+
+pub use lists::{PlaneList, Ring, corner};
+pub use overlap::Overlap;
+pub use pairs::{clip, is_ring, planes};
+pub use pieces::{Corners, Piece, Pieces};
+pub use rings::{cut, start};
