@@ -1,5 +1,5 @@
 -- What a call says of a header, by what the definitions give.
-use Rattle.std.proofs.Common.{◌≡◌, ℕ, ◌*◌, ◌≤◌, length, All, List, Option, Some, Result, Ok, Err, sym, ap, subst, ◌∙◌}
+use Rattle.std.proofs.Common.{◌≡◌, ℕ, ◌*◌, ◌≤◌, length, All, List, Some, Result, Ok, Err, ap, subst}
 use Rattle.std.specs.Prelude.{IfOk, IfErr}
 use Rattle.nc_format.specs.declared.NcFile.{NcFile}
 use Rattle.nc_format.specs.declared.fault.NcFault.{NcFault}

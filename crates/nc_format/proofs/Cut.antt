@@ -5,10 +5,10 @@ use Rattle.std.proofs.Math.Seq.{take-append-add}
 use Rattle.nc_write.specs.declared.NcDoc.{NcDoc}
 use Rattle.nc_write.specs.File.{header, header_len, data_of, file_of}
 use Rattle.nc_write.specs.Form.{IsWellFormed}
-use Rattle.nc_write.proofs.PartLengths.{length_header_any, length_header}
+use Rattle.nc_write.proofs.PartLengths.{length_header_any}
 use Rattle.nc_format.specs.declared.NcFile.{NcFile}
 use Rattle.nc_format.specs.declared.fault.NcFault.{NcFault}
-use Rattle.nc_format.specs.declared.fault.NcFault.TheVariants.{NotNetcdf, Truncated, DataOutside}
+use Rattle.nc_format.specs.declared.fault.NcFault.TheVariants.{NotNetcdf, Truncated}
 use Rattle.nc_format.specs.Placing.{placed_vars, with_places, is_outside}
 use Rattle.nc_format.specs.Header.{header_read, inside_or, finished, fault_in, first_fault}
 use Rattle.nc_format.specs.Written.{fields_of, IsWhole}

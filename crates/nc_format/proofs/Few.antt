@@ -1,6 +1,5 @@
 -- A header keeps few items: each takes four bytes or more.
-use Rattle.std.proofs.Common.{◌≡◌, ℕ, zero, suc, ◌+◌, ◌*◌, ◌<◌, ◌≤◌, Bool, true, false, ◌==◌, if◌then◌else◌, List, [], ◌∷◌, ◌++◌, length, map, Result, Ok, Err, refl, sym, ap, subst, ◌∙◌, arith}
-use Rattle.std.specs.Prelude.{IfOk}
+use Rattle.std.proofs.Common.{◌≡◌, ℕ, zero, suc, ◌+◌, ◌*◌, ◌≤◌, Bool, true, false, ◌==◌, if◌then◌else◌, List, [], ◌∷◌, ◌++◌, length, map, refl, ap, subst, arith}
 use Rattle.std.specs.List.{sum_by, list_any}
 use Rattle.std.proofs.lemmas.List.{length-append, length-map}
 use Rattle.std.proofs.lemmas.List.Sums.{sum_by-cons, sum_by_push}
@@ -9,9 +8,8 @@ use Rattle.nc_format.specs.declared.NcDim.{NcDim}
 use Rattle.nc_format.specs.declared.NcAtt.{NcAtt}
 use Rattle.nc_format.specs.declared.NcVar.{NcVar}
 use Rattle.nc_format.specs.declared.NcFile.{NcFile}
-use Rattle.nc_format.specs.declared.fault.NcFault.{NcFault}
 use Rattle.nc_format.specs.Parts.{Part, field, items, number}
-use Rattle.nc_format.specs.Grammar.{bounded, name, tag, count, listed, dim, next_dim, dim_list, att, att_list, var, var_list, body, is_record_dim}
+use Rattle.nc_format.specs.Grammar.{bounded, name, listed, dim, next_dim, dim_list, att, att_list, var, var_list, body, is_record_dim}
 use Rattle.nc_format.specs.Placing.{placed, step_of, with_places}
 use Rattle.nc_format.specs.Header.{IsHeader}
 use Rattle.nc_format.specs.Sound.{item_count}

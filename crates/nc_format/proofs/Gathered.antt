@@ -1,52 +1,40 @@
 -- The pieces of a variable in a document's file are its values.
-use Rattle.std.proofs.Common.{◌≡◌, ◌⊎◌, inl, inr, ℕ, ℤ, zero, suc, ◌+◌, ◌-◌, ◌*◌, ◌<◌, ◌≤◌, Bool, true, false, ltb, not, ◌==◌, if◌then◌else◌, List, [], ◌∷◌, ◌++◌, length, map, take, drop, replicate, slice_range, All, FitsSigned, refl, sym, ap, subst, ◌∙◌, append_assoc, add-one, arith}
+use Rattle.std.proofs.Common.{◌≡◌, ◌⊎◌, inl, inr, ℕ, zero, suc, ◌+◌, ◌-◌, ◌*◌, ◌<◌, Bool, true, false, ◌==◌, if◌then◌else◌, List, [], ◌∷◌, ◌++◌, length, map, take, drop, replicate, slice_range, All, refl, sym, ap, subst, ◌∙◌, append_assoc, add-one, arith}
 use Rattle.std.specs.List.{flat_map, range_with_len, sum_by, AllZip}
 use Rattle.std.proofs.Math.Nat.{suc-mul, one-mul}
 use Rattle.std.proofs.Math.Seq.{take-add}
 use Rattle.std.proofs.lemmas.Bool.{lt-ltb}
 use Rattle.std.proofs.lemmas.Bool.Decides.{nat_tests}
 use Rattle.std.proofs.lemmas.Grind.{flat_map-append}
-use Rattle.std.proofs.lemmas.List.{append-nil, drop_at, take_at, take_all, length-append, length-drop, length-take-le}
+use Rattle.std.proofs.lemmas.List.{append-nil, take_at, take_all, length-drop, length-take-le}
 use Rattle.std.proofs.lemmas.List.Concat.{flat_map-cons}
-use Rattle.std.proofs.lemmas.List.Elements.{All-head, All-nil, All-push, All-tail}
-use Rattle.std.proofs.lemmas.List.Sums.{sum_by-cons, sum_by_push}
+use Rattle.std.proofs.lemmas.List.Elements.{All-head, All-tail}
+use Rattle.std.proofs.lemmas.List.Sums.{sum_by_push}
 use Rattle.nc_write.specs.declared.NcKind.{NcKind}
 use Rattle.nc_write.specs.declared.NcDoc.{NcDoc}
 use Rattle.nc_write.specs.declared.DocVar.{DocVar}
-use Rattle.nc_write.specs.Kinds.{size_of, value, bits_of}
-use Rattle.nc_write.specs.Extents.{pad_len, rounded, piece_count, share_of}
-use Rattle.nc_write.specs.File.{kind_of, numbers_of, is_record, pieces_of, has_several, fixed_len, record_len, first_len, fixed_total, begin_of, header, header_len, data_of, file_of, padded, padded_if, value_bytes, fixed_data, record_numbers, record_data, record_of, piece_len as doc_piece_len, step_of as doc_step_of, lens_of as doc_lens_of}
+use Rattle.nc_write.specs.Kinds.{size_of, value}
+use Rattle.nc_write.specs.Extents.{pad_len, piece_count}
+use Rattle.nc_write.specs.File.{kind_of, numbers_of, is_record, has_several, fixed_len, record_len, first_len, fixed_total, begin_of, header_len, file_of, padded, padded_if, value_bytes, fixed_data, record_numbers, record_data, piece_len as doc_piece_len, step_of as doc_step_of, lens_of as doc_lens_of}
 use Rattle.nc_write.specs.Form.{IsWellFormed, HasItsValues}
-use Rattle.nc_write.proofs.PartLengths.{length_padded, length_header_any}
-use Rattle.nc_write.proofs.Places.{has_its_values, length_value_bytes, length_fixed_data, record_within}
+use Rattle.nc_write.proofs.Places.{has_its_values, length_value_bytes, record_within}
 use Rattle.nc_write.proofs.Records.{flat_range_more}
-use Rattle.nc_format.specs.declared.NcDim.{NcDim}
+use Rattle.nc_write.proofs.Standing.{fixed_stands, record_stands}
 use Rattle.nc_format.specs.declared.NcVar.{NcVar}
-use Rattle.nc_format.specs.Placing.{is_record_var, piece_len, step_of, part_of, own_step, placed}
+use Rattle.nc_format.specs.Placing.{is_record_var, piece_len, part_of, own_step, placed}
 use Rattle.nc_format.specs.Numbers.{numbers_in, piece_of, gathered}
-use Rattle.nc_format.specs.Written.{dim_of, var_of, vars_of, fields_of, header_of, HasTypedValues}
+use Rattle.nc_format.specs.Written.{dim_of, var_of, vars_of, header_of, HasTypedValues}
 use Rattle.nc_format.proofs.Inside.{piece_same, record_same, step_same, first_step}
 use Rattle.nc_format.proofs.ReadBack.{numbers_back}
 
 -- Lists.
 
--- a part of a list, by what stands before it
-slice_mid : (pre bytes post file : List ℕ) (i j : ℕ) → file ≡ pre ++ (bytes ++ post) → i ≡ length pre → j ≡ i + length bytes → slice_range file i j ≡ bytes
-slice_mid pre bytes post file i j e at end =
-    ap (λ (f : List ℕ). take (j - i) (drop i f)) e
-    ∙ ap (take (j - i)) (drop_at pre (bytes ++ post) i (sym at))
-    ∙ take_at bytes post (j - i) (omega arith)
-
-flat_len : {X A : Type 0} (f : X → List A) (g : X → ℕ) (P : X → Type 0) → ((x : X) → P x → length (f x) ≡ g x) → (xs : List X) → All P xs → length (flat_map f xs) ≡ sum_by g xs
-flat_len f g P h [] all = refl
-flat_len f g P h (x ∷ xs) all =
-    omega (arith, length-append (f x) (flat_map f xs), h x (All-head P x xs all), flat_len f g P h xs (All-tail P x xs all), sum_by-cons g x xs)
-
-range_split : (a m k : ℕ) → range_with_len a (m + k) ≡ range_with_len a m ++ range_with_len (a + m) k
-range_split a zero k = ap (range_with_len a) (let e : 0 + k ≡ k = omega arith in e) ∙ ap (λ (b : ℕ). range_with_len b k) (let e : a ≡ a + 0 = omega arith in e)
-range_split a (suc m) k =
-    ap (range_with_len a) (let e : suc m + k ≡ suc (m + k) = omega arith in e)
-    ∙ ap (λ (l : List ℕ). a ∷ l) (range_split (a + 1) m k ∙ ap (λ (b : ℕ). range_with_len (a + 1) m ++ range_with_len b k) (let e : a + 1 + m ≡ a + suc m = omega arith in e))
+-- a part of a list, by what stands at its place and what follows
+slice_front : (file bytes pad rest : List ℕ) (at i j : ℕ) → drop at file ≡ (bytes ++ pad) ++ rest → i ≡ at → j ≡ i + length bytes → slice_range file i j ≡ bytes
+slice_front file bytes pad rest at i j e is end =
+    ap (λ (k : ℕ). take (j - i) (drop k file)) is
+    ∙ ap (take (j - i)) (e ∙ append_assoc bytes pad rest)
+    ∙ take_at bytes (pad ++ rest) (j - i) (omega (arith, end))
 
 flat_same : (f g : ℕ → List ℕ) (a n : ℕ) → ((r : ℕ) → r < a + n → f r ≡ g r) → flat_map f (range_with_len a n) ≡ flat_map g (range_with_len a n)
 flat_same f g a zero h = refl
@@ -56,16 +44,7 @@ flat_same f g a (suc n) h =
     ∙ ap (λ (l : List ℕ). g a ++ l) (flat_same f g (a + 1) n (λ r lt. h r (omega arith)))
     ∙ sym (flat_map-cons g a (range_with_len (a + 1) n))
 
--- The lengths of what a document has of its variables.
-
-fixed_fits : (doc : NcDoc) (v : DocVar) → HasItsValues doc v → length (fixed_data doc v) ≡ fixed_len doc v
-unfolding doc_piece_len
-fixed_fits doc v h = length_fixed_data doc v ∙ split (is_record doc v) h
-  where
-    split : (b : Bool) → length (numbers_of v.values) ≡ (if b then doc.records else 1) * piece_count (doc_lens_of doc) v.dims
-        → (if b then 0 else rounded (size_of (kind_of v.values) * length (numbers_of v.values))) ≡ (if b then 0 else rounded (size_of (kind_of v.values) * piece_count (doc_lens_of doc) v.dims))
-    split true e = refl
-    split false e = ap (λ n. rounded (size_of (kind_of v.values) * n)) (e ∙ one-mul (piece_count (doc_lens_of doc) v.dims))
+-- Records.
 
 -- a record variable has the values of all records
 record_count : (doc : NcDoc) (v : DocVar) → is_record doc v ≡ true → HasItsValues doc v → length (numbers_of v.values) ≡ doc.records * piece_count (doc_lens_of doc) v.dims
@@ -88,33 +67,6 @@ record_is : (doc : NcDoc) (v : DocVar) (r : ℕ) → is_record doc v ≡ true �
 unfolding record_data record_bytes
 record_is doc v r e = ap (λ (b : Bool). if b then padded_if (has_several doc) (value_bytes (kind_of v.values) (record_numbers doc r v)) else []) e
 
-padded_if_len : (several : Bool) (bytes : List ℕ) (n : ℕ) → length bytes ≡ n → length (padded_if several bytes) ≡ share_of several true n
-padded_if_len true bytes n e = length_padded 0x81 bytes ∙ ap rounded e
-padded_if_len false bytes n e = e
-
-record_fits : (doc : NcDoc) (r : ℕ) → r < doc.records → (v : DocVar) → HasItsValues doc v → length (record_data doc r v) ≡ record_len doc v
-unfolding record_data
-record_fits doc r lt v h = split (is_record doc v) refl
-  where
-    split : (b : Bool) → is_record doc v ≡ b → length (record_data doc r v) ≡ record_len doc v
-    split true e =
-        ap length (record_is doc v r e) ∙ padded_if_len (has_several doc) (record_bytes doc v r) (doc_piece_len doc v) (record_bytes_len doc v r lt e h)
-        ∙ ap (λ (b : Bool). share_of (has_several doc) b (doc_piece_len doc v)) (sym e)
-    split false e =
-        ap (λ (b : Bool). length (if b then padded_if (has_several doc) (value_bytes (kind_of v.values) (record_numbers doc r v)) else [])) e
-        ∙ ap (λ (b : Bool). share_of (has_several doc) b (doc_piece_len doc v)) (sym e)
-
-record_of_len : (doc : NcDoc) → All (HasItsValues doc) doc.vars → (r : ℕ) → r < doc.records → length (record_of doc r) ≡ doc_step_of doc
-unfolding record_of
-record_of_len doc all r lt = flat_len (record_data doc r) (record_len doc) (HasItsValues doc) (record_fits doc r lt) doc.vars all
-
-records_len : (doc : NcDoc) → All (HasItsValues doc) doc.vars → (n : ℕ) → n ≤ doc.records → length (flat_map (record_of doc) (range_with_len 0 n)) ≡ n * doc_step_of doc
-records_len doc all zero le = omega arith
-records_len doc all (suc n) le =
-    ap (λ k. length (flat_map (record_of doc) (range_with_len 0 k))) (sym (add-one n))
-    ∙ ap length (flat_range_more (record_of doc) n)
-    ∙ omega (arith, length-append (flat_map (record_of doc) (range_with_len 0 n)) (record_of doc n), records_len doc all n (omega arith), record_of_len doc all n (omega arith), suc-mul n (doc_step_of doc))
-
 -- Pieces.
 
 -- padding stands behind
@@ -122,88 +74,32 @@ padding_behind : (several : Bool) (bytes : List ℕ) → (pad : List ℕ) × (pa
 padding_behind true bytes = (replicate (pad_len (length bytes)) 0x81, refl)
 padding_behind false bytes = ([], sym (append-nil bytes))
 
-fixed_order : (h a b p q t : List ℕ) → h ++ ((a ++ ((b ++ p) ++ q)) ++ t) ≡ (h ++ a) ++ (b ++ (p ++ (q ++ t)))
-fixed_order h a b p q t =
-    ap (λ (l : List ℕ). h ++ l) (append_assoc a ((b ++ p) ++ q) t ∙ ap (λ (l : List ℕ). a ++ l) (append_assoc (b ++ p) q t ∙ append_assoc b p (q ++ t)))
-    ∙ sym (append_assoc h a (b ++ (p ++ (q ++ t))))
-
--- where a document's variables are split, so is what is made of them
-split_flat : (f : DocVar → List ℕ) (before : List DocVar) (v : DocVar) (after : List DocVar) → flat_map f (before ++ v ∷ after) ≡ flat_map f before ++ (f v ++ flat_map f after)
-split_flat f before v after = flat_map-append f before (v ∷ after) ∙ ap (λ (l : List ℕ). flat_map f before ++ l) (flat_map-cons f v after)
-
 -- the variables of a document up to one of them, it, and those behind
 pub record Split (doc : NcDoc) (before : List DocVar) (v : DocVar) (after : List DocVar) : Type 0 where
   pub parts : doc.vars ≡ before ++ v ∷ after
-  pub before_has : All (HasItsValues doc) before
   pub has : HasItsValues doc v
   pub all_have : All (HasItsValues doc) doc.vars
 
 fixed_slice : (doc : NcDoc) (before : List DocVar) (v : DocVar) (after : List DocVar) → Split doc before v after → is_record doc v ≡ false → (i j : ℕ) → i ≡ header_len doc + sum_by (fixed_len doc) before → j ≡ i + doc_piece_len doc v
     → slice_range (file_of doc) i j ≡ value_bytes (kind_of v.values) (numbers_of v.values)
-unfolding file_of data_of fixed_data doc_piece_len
+unfolding fixed_data doc_piece_len
 fixed_slice doc before v after s e i j at end =
-    let head = header doc (header_len doc) in
     let bytes = value_bytes (kind_of v.values) (numbers_of v.values) in
-    let pad = replicate (pad_len (length bytes)) 0x81 in
-    let rest = flat_map (record_of doc) (range_with_len 0 doc.records) in
+    let pad : List ℕ = replicate (pad_len (length bytes)) 0x81 in
+    let stands = fixed_stands doc before after v s.parts s.all_have in
     let here : fixed_data doc v ≡ bytes ++ pad = ap (λ (b : Bool). if b then [] else padded 0x81 bytes) e in
-    let all : flat_map (fixed_data doc) doc.vars ≡ flat_map (fixed_data doc) before ++ ((bytes ++ pad) ++ flat_map (fixed_data doc) after) =
-    ap (flat_map (fixed_data doc)) s.parts ∙ split_flat (fixed_data doc) before v after ∙ ap (λ (l : List ℕ). flat_map (fixed_data doc) before ++ (l ++ flat_map (fixed_data doc) after)) here in
-    let file : file_of doc ≡ (head ++ flat_map (fixed_data doc) before) ++ (bytes ++ (pad ++ (flat_map (fixed_data doc) after ++ rest))) =
-    ap (λ (l : List ℕ). head ++ (l ++ rest)) all ∙ fixed_order head (flat_map (fixed_data doc) before) bytes pad (flat_map (fixed_data doc) after) rest in
     let n : length bytes ≡ size_of (kind_of v.values) * piece_count (doc_lens_of doc) v.dims =
     length_value_bytes (kind_of v.values) (numbers_of v.values) ∙ ap (λ k. size_of (kind_of v.values) * k) (s.has ∙ ap (λ (b : Bool). (if b then doc.records else 1) * piece_count (doc_lens_of doc) v.dims) e ∙ one-mul (piece_count (doc_lens_of doc) v.dims)) in
-    let len = flat_len (fixed_data doc) (fixed_len doc) (HasItsValues doc) (fixed_fits doc) before s.before_has in
-    slice_mid (head ++ flat_map (fixed_data doc) before) bytes (pad ++ (flat_map (fixed_data doc) after ++ rest)) (file_of doc) i j file
-    (omega (arith, at, len, length-append head (flat_map (fixed_data doc) before), length_header_any doc (header_len doc)))
-    (omega (arith, end, n))
+    slice_front (file_of doc) bytes pad stands.0 (header_len doc + sum_by (fixed_len doc) before) i j (stands.1 ∙ ap (λ (l : List ℕ). l ++ stands.0) here) at (end ∙ ap (λ (k : ℕ). i + k) (sym n))
 
-record_order : (h f r a b p q t : List ℕ) → h ++ (f ++ (r ++ ((a ++ ((b ++ p) ++ q)) ++ t))) ≡ (((h ++ f) ++ r) ++ a) ++ (b ++ (p ++ (q ++ t)))
-record_order h f r a b p q t =
-    sym (append_assoc h f (r ++ ((a ++ ((b ++ p) ++ q)) ++ t))) ∙ sym (append_assoc (h ++ f) r ((a ++ ((b ++ p) ++ q)) ++ t)) ∙ fixed_order ((h ++ f) ++ r) a b p q t
-
-record_split : (doc : NcDoc) (before : List DocVar) (v : DocVar) (after : List DocVar) → Split doc before v after → (r : ℕ) (bytes : List ℕ) → record_data doc r v ≡ bytes → record_of doc r ≡ flat_map (record_data doc r) before ++ (bytes ++ flat_map (record_data doc r) after)
-unfolding record_of
-record_split doc before v after s r bytes here =
-    ap (flat_map (record_data doc r)) s.parts ∙ split_flat (record_data doc r) before v after ∙ ap (λ (l : List ℕ). flat_map (record_data doc r) before ++ (l ++ flat_map (record_data doc r) after)) here
-
--- the numbers up to one of them, it, and those behind
-range_at : (r n : ℕ) → r < n → range_with_len 0 n ≡ range_with_len 0 r ++ r ∷ range_with_len (r + 1) (n - (r + 1))
-range_at r n lt =
-    ap (range_with_len 0) (let e : n ≡ r + suc (n - (r + 1)) = omega arith in e) ∙ range_split 0 r (suc (n - (r + 1)))
-    ∙ ap (λ (b : ℕ). range_with_len 0 r ++ range_with_len b (suc (n - (r + 1)))) (let e : 0 + r ≡ r = omega arith in e)
-
-record_slice : (doc : NcDoc) (before : List DocVar) (v : DocVar) (after : List DocVar) → Split doc before v after → is_record doc v ≡ true → (r : ℕ) → r < doc.records → (i j : ℕ) → i ≡ header_len doc + fixed_total doc + r * doc_step_of doc + sum_by (record_len doc) before → j ≡ i + doc_piece_len doc v
+record_slice : (doc : NcDoc) (before : List DocVar) (v : DocVar) (after : List DocVar) → Split doc before v after → is_record doc v ≡ true → (r : ℕ) → r < doc.records → (i j : ℕ) → i ≡ header_len doc + fixed_total doc + sum_by (record_len doc) before + r * doc_step_of doc → j ≡ i + doc_piece_len doc v
     → slice_range (file_of doc) i j ≡ record_bytes doc v r
-unfolding file_of data_of
 record_slice doc before v after s e r lt i j at end =
-    let head = header doc (header_len doc) in
-    let fixed = flat_map (fixed_data doc) doc.vars in
-    let ahead = flat_map (record_of doc) (range_with_len 0 r) in
-    let left = doc.records - (r + 1) in
-    let later = flat_map (record_of doc) (range_with_len (r + 1) left) in
     let bytes = record_bytes doc v r in
     let pad = padding_behind (has_several doc) bytes in
+    let stands = record_stands doc before after v s.parts s.all_have r lt in
     let here : record_data doc r v ≡ bytes ++ pad.0 = record_is doc v r e ∙ pad.1 in
-    let one : record_of doc r ≡ flat_map (record_data doc r) before ++ ((bytes ++ pad.0) ++ flat_map (record_data doc r) after) = record_split doc before v after s r (bytes ++ pad.0) here in
-    let ranges : range_with_len 0 doc.records ≡ range_with_len 0 r ++ r ∷ range_with_len (r + 1) left = range_at r doc.records lt in
-    let records : flat_map (record_of doc) (range_with_len 0 doc.records) ≡ ahead ++ (record_of doc r ++ later) =
-    ap (flat_map (record_of doc)) ranges ∙ flat_map-append (record_of doc) (range_with_len 0 r) (r ∷ range_with_len (r + 1) left) ∙ ap (λ (l : List ℕ). ahead ++ l) (flat_map-cons (record_of doc) r (range_with_len (r + 1) left)) in
-    let file : file_of doc ≡ (((head ++ fixed) ++ ahead) ++ flat_map (record_data doc r) before) ++ (bytes ++ (pad.0 ++ (flat_map (record_data doc r) after ++ later))) =
-    ap (λ (l : List ℕ). head ++ (fixed ++ l)) (records ∙ ap (λ (l : List ℕ). ahead ++ (l ++ later)) one) ∙ record_order head fixed ahead (flat_map (record_data doc r) before) bytes pad.0 (flat_map (record_data doc r) after) later in
-    slice_mid (((head ++ fixed) ++ ahead) ++ flat_map (record_data doc r) before) bytes (pad.0 ++ (flat_map (record_data doc r) after ++ later)) (file_of doc) i j file
-    (omega (
-      arith,
-      at,
-      length-append ((head ++ fixed) ++ ahead) (flat_map (record_data doc r) before),
-      length-append (head ++ fixed) ahead,
-      length-append head fixed,
-      length_header_any doc (header_len doc),
-      flat_len (fixed_data doc) (fixed_len doc) (HasItsValues doc) (fixed_fits doc) doc.vars s.all_have,
-      records_len doc s.all_have r (omega arith),
-      flat_len (record_data doc r) (record_len doc) (HasItsValues doc) (record_fits doc r lt) before s.before_has,
-    ))
-    (omega (arith, end, record_bytes_len doc v r lt e s.has))
+    slice_front (file_of doc) bytes pad.0 stands.0 (header_len doc + fixed_total doc + sum_by (record_len doc) before + r * doc_step_of doc) i j (stands.1 ∙ ap (λ (l : List ℕ). l ++ stands.0) here) at (end ∙ ap (λ (k : ℕ). i + k) (sym (record_bytes_len doc v r lt e s.has)))
 
 -- All pieces of a variable.
 
@@ -296,13 +192,13 @@ var_values doc before v after s typed =
     let kind : (header_var doc before v).kind ≡ kind_of v.values = kind_same doc before v in
     ap (λ (k : NcKind). numbers_in k (gathered (header_var doc before v) (file_of doc))) kind ∙ ap (numbers_in (kind_of v.values)) (var_gathered doc before v after s) ∙ numbers_back (kind_of v.values) (numbers_of v.values) typed
 
-vars_values : (doc : NcDoc) (before vs : List DocVar) → doc.vars ≡ before ++ vs → All (HasItsValues doc) before → All (HasItsValues doc) vs → All (HasItsValues doc) doc.vars → All HasTypedValues vs
+vars_values : (doc : NcDoc) (before vs : List DocVar) → doc.vars ≡ before ++ vs → All (HasItsValues doc) vs → All (HasItsValues doc) doc.vars → All HasTypedValues vs
     → AllZip (HasValues doc) (map (placed doc.records (map dim_of doc.dims) (doc_step_of doc)) (vars_of doc (header_len doc + sum_by (fixed_len doc) before) (header_len doc + fixed_total doc + sum_by (first_len doc) before) vs)) vs
-vars_values doc before [] parts had have all typed = tt
-vars_values doc before (v ∷ vs) parts had have all typed =
-    let s : Split doc before v vs = record { parts = parts; before_has = had; has = All-head (HasItsValues doc) v vs have; all_have = all } in
+vars_values doc before [] parts have all typed = tt
+vars_values doc before (v ∷ vs) parts have all typed =
+    let s : Split doc before v vs = record { parts = parts; has = All-head (HasItsValues doc) v vs have; all_have = all } in
     let next : doc.vars ≡ (before ++ v ∷ []) ++ vs = parts ∙ sym (append_assoc before (v ∷ []) vs) in
-    let rest = vars_values doc (before ++ v ∷ []) vs next (All-push (HasItsValues doc) before v had (All-head (HasItsValues doc) v vs have)) (All-tail (HasItsValues doc) v vs have) all (All-tail HasTypedValues v vs typed) in
+    let rest = vars_values doc (before ++ v ∷ []) vs next (All-tail (HasItsValues doc) v vs have) all (All-tail HasTypedValues v vs typed) in
     let one : header_len doc + sum_by (fixed_len doc) (before ++ v ∷ []) ≡ header_len doc + sum_by (fixed_len doc) before + fixed_len doc v = omega (arith, sum_by_push (fixed_len doc) before v) in
     let two : header_len doc + fixed_total doc + sum_by (first_len doc) (before ++ v ∷ []) ≡ header_len doc + fixed_total doc + sum_by (first_len doc) before + first_len doc v = omega (arith, sum_by_push (first_len doc) before v) in
     let place = placed doc.records (map dim_of doc.dims) (doc_step_of doc) in (
@@ -316,7 +212,7 @@ doc_values doc h typed =
     let all = has_its_values doc h in
     let begin = header_len doc in
     let records_at = begin + fixed_total doc in
-    let whole = vars_values doc [] doc.vars refl (All-nil (HasItsValues doc)) all all typed in
+    let whole = vars_values doc [] doc.vars refl all all typed in
     let place : ℕ → NcVar → NcVar = placed doc.records (map dim_of doc.dims) in
     let none : begin + sum_by (fixed_len doc) [] ≡ begin = omega arith in
     let none_there : records_at + sum_by (first_len doc) [] ≡ records_at = omega arith in

@@ -1,8 +1,8 @@
 -- The header of a document says what the document says, and its file holds all values.
-use Rattle.std.proofs.Common.{◌≡◌, ◌⊎◌, inl, inr, ℕ, zero, suc, ◌+◌, ◌-◌, ◌*◌, ◌<◌, ◌≤◌, Bool, true, false, ltb, not, ◌==◌, ◌&&◌, if◌then◌else◌, List, [], ◌∷◌, ◌++◌, length, map, All, refl, sym, ap, subst, ◌∙◌, arith}
+use Rattle.std.proofs.Common.{◌≡◌, ℕ, zero, suc, ◌+◌, ◌-◌, ◌*◌, ◌<◌, ◌≤◌, Bool, true, false, ltb, not, ◌==◌, if◌then◌else◌, List, [], ◌∷◌, length, map, All, refl, sym, ap, subst, ◌∙◌, arith}
 use Rattle.std.specs.List.{count_by, sum_by, AllByRecursion}
-use Rattle.std.proofs.Math.Nat.{suc-mul, mul-le-mul_right}
-use Rattle.std.proofs.lemmas.Bool.{le-ltb, lt-ltb, ltb-true}
+use Rattle.std.proofs.Math.Nat.{suc-mul}
+use Rattle.std.proofs.lemmas.Bool.{le-ltb, lt-ltb}
 use Rattle.std.proofs.lemmas.Bool.Decides.{nat_tests}
 use Rattle.std.proofs.lemmas.List.Elements.{All-from_recursion}
 use Rattle.std.proofs.lemmas.List.Sums.{sum_by-cons}
@@ -10,17 +10,14 @@ use Rattle.nc_write.specs.declared.NcDoc.{NcDoc}
 use Rattle.nc_write.specs.declared.DocVar.{DocVar}
 use Rattle.nc_write.specs.Kinds.{size_of}
 use Rattle.nc_write.specs.Extents.{pad_len, piece_count, has_records, share_of}
-use Rattle.nc_write.specs.File.{kind_of, is_record, pieces_of, has_several, fixed_len, record_len, first_len, fixed_total, begin_of, header, header_len, data_of, file_of, piece_len as doc_piece_len, step_of as doc_step_of, lens_of as doc_lens_of}
+use Rattle.nc_write.specs.File.{kind_of, is_record, has_several, fixed_len, record_len, first_len, fixed_total, begin_of, header, header_len, data_of, file_of, piece_len as doc_piece_len, step_of as doc_step_of}
 use Rattle.nc_write.specs.Form.{IsWellFormed}
-use Rattle.nc_write.proofs.Places.{has_its_values, length_file_of, first_within}
+use Rattle.nc_write.proofs.Places.{has_its_values, length_file_of}
 use Rattle.nc_format.specs.declared.NcDim.{NcDim}
 use Rattle.nc_format.specs.declared.NcVar.{NcVar}
-use Rattle.nc_format.specs.Grammar.{lens_of}
-use Rattle.nc_format.specs.Placing.{is_record_var, piece_len, share, step_of, parts_of, part_of, own_step, placed, placed_vars, with_places, end_of, is_outside}
+use Rattle.nc_format.specs.Placing.{is_record_var, piece_len, share, step_of, placed, is_outside}
 use Rattle.nc_format.specs.Header.{IsHeader}
-use Rattle.nc_format.specs.Numbers.{HasPieces}
-use Rattle.nc_format.specs.Written.{dim_of, att_of, var_of, vars_of, fields_of, header_of, IsOfDoc}
-use Rattle.nc_format.proofs.Lawful.{ok_is}
+use Rattle.nc_format.specs.Written.{dim_of, var_of, vars_of, fields_of, header_of, IsOfDoc}
 use Rattle.nc_format.proofs.Spelled.{lens_same, doc_spelled}
 
 -- What a header and its document have in common.

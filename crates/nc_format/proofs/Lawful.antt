@@ -2,12 +2,12 @@
 -- neither a value nor a fault, unless the bytes ended too early.
 use Rattle.std.proofs.Common.{◌≡◌, ℕ, zero, suc, ◌+◌, ◌<◌, ◌≤◌, Bool, true, false, ltb, ◌⊎◌, inl, inr, List, [], ◌∷◌, ◌++◌, length, take, drop, Result, Ok, Err, if◌then◌else◌, refl, sym, ap, subst, ◌∙◌, append_assoc, drop-drop, arith}
 use Rattle.std.proofs.lemmas.Bool.{cases_lt, le-ltb, lt-ltb}
-use Rattle.std.proofs.lemmas.List.{length-append, length-drop, length-take, take-append-le, take-append-drop, take_at, drop_at, drop-append-le}
+use Rattle.std.proofs.lemmas.List.{length-append, length-drop, length-take, take-append-drop, take_at, drop_at, drop-append-le}
 use Rattle.byteorder.specs.Endian.{big_number}
 use Rattle.nc_write.specs.Extents.{rounded}
 use Rattle.nc_format.specs.declared.fault.NcFault.{NcFault}
 use Rattle.nc_format.specs.declared.fault.NcFault.TheVariants.{Truncated}
-use Rattle.nc_format.specs.Parts.{◌>>=◌, on_value, Part, gives, field, BothSpell, SecondFails, BreaksRule, such_that, items, number, padded}
+use Rattle.nc_format.specs.Parts.{◌>>=◌, on_value, Part, gives, field, such_that, items, number, padded}
 
 pub record IsLawful {A : Type 0} (P : Part A) : Type 0 where
   pub sound : (b : List ℕ) (o : ℕ) (x : A × ℕ) → o ≤ length b → P.read b o ≡ Ok x → (s : List ℕ) × (r : List ℕ) × (drop o b ≡ s ++ r) × (x.1 ≡ o + length s) × P.Spells s x.0

@@ -1,6 +1,5 @@
 -- Each part of a header is lawful.
 use Rattle.std.proofs.Common.{ℕ, Bool, List, []}
-use Rattle.nc_write.specs.Kinds.{size_of}
 use Rattle.nc_write.specs.Widths.{width, begin_width}
 use Rattle.nc_format.specs.declared.NcDim.{NcDim}
 use Rattle.nc_format.specs.Parts.{Part}

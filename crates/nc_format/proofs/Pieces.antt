@@ -1,5 +1,5 @@
 -- The pieces of a header's variables.
-use Rattle.std.proofs.Common.{◌≡◌, ◌⊎◌, inl, inr, ℕ, zero, suc, ◌+◌, ◌-◌, ◌*◌, ◌%◌, ◌<◌, ◌≤◌, Bool, true, false, not, ltb, ◌==◌, ◌&&◌, if◌then◌else◌, List, [], ◌∷◌, length, map, get_or, take, drop, slice_range, add-one, All, refl, sym, ap, subst, ◌∙◌, arith}
+use Rattle.std.proofs.Common.{◌≡◌, inl, inr, ℕ, zero, suc, ◌+◌, ◌-◌, ◌*◌, ◌%◌, ◌≤◌, Bool, true, false, not, ltb, ◌==◌, ◌&&◌, if◌then◌else◌, List, [], ◌∷◌, length, map, get_or, drop, add-one, All, refl, sym, ap, subst, ◌∙◌, arith}
 use Rattle.std.proofs.Math.Nat.{mul-le-mul_right, mul-mod_right, suc-mul, zero-mod}
 use Rattle.std.proofs.lemmas.Bool.{cases_lt, lt-ltb}
 use Rattle.std.proofs.lemmas.List.Elements.{All-map}
@@ -13,7 +13,7 @@ use Rattle.nc_format.specs.declared.NcDim.{NcDim}
 use Rattle.nc_format.specs.declared.NcVar.{NcVar}
 use Rattle.nc_format.specs.declared.NcFile.{NcFile}
 use Rattle.nc_format.specs.Grammar.{lens_of}
-use Rattle.nc_format.specs.Placing.{is_record_var, share, piece_len, part_of, parts_of, own_step, IsPlaced, placed, placed_vars, with_places, step_of, end_of, is_outside}
+use Rattle.nc_format.specs.Placing.{is_record_var, share, piece_len, parts_of, own_step, IsPlaced, placed, placed_vars, with_places, step_of, end_of, is_outside}
 use Rattle.nc_format.specs.Header.{IsHeader}
 use Rattle.nc_format.specs.Numbers.{HasPieces, HasWholePieces, piece_of}
 

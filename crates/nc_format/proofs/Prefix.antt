@@ -1,9 +1,8 @@
 -- One header or one first fault, and bytes that follow.
-use Rattle.std.proofs.Common.{◌≡◌, ◌↔◌, ◌⊎◌, inl, inr, ℕ, ◌≤◌, List, ◌++◌, length, Option, Some, None, Result, Ok, Err, refl, sym, ap, ◌∙◌, append_assoc}
+use Rattle.std.proofs.Common.{◌≡◌, ◌↔◌, ◌⊎◌, inl, inr, ℕ, ◌≤◌, List, ◌++◌, length, Some, None, Result, Ok, Err, refl, sym, ap, ◌∙◌, append_assoc}
 use Rattle.nc_format.specs.declared.NcFile.{NcFile}
 use Rattle.nc_format.specs.declared.fault.NcFault.{NcFault}
-use Rattle.nc_format.specs.declared.fault.NcFault.TheVariants.{Truncated}
-use Rattle.nc_format.specs.Header.{IsHeader, IsFirstFault, IsSettled, header_read, header_in, fault_in, first_fault}
+use Rattle.nc_format.specs.Header.{IsHeader, IsFirstFault, IsSettled, header_read, fault_in, first_fault}
 use Rattle.nc_format.proofs.Whole.{header_kept, header_settled, read_value, read_fault, is_first_fault, first_fault_is, no_fault, no_fault_is}
 pub use Rattle.nc_format.proofs.Whole.{one_header}
 

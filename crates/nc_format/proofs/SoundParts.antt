@@ -1,5 +1,5 @@
 -- Every header is sound.
-use Rattle.std.proofs.Common.{◌≡◌, ℕ, zero, suc, ◌+◌, ◌<◌, ◌≤◌, ◌^◌, Bool, true, false, if◌then◌else◌, eqb, not, ◌&&◌, ◌||◌, List, [], ◌∷◌, ◌++◌, length, take, map, All, refl, sym, ap, subst, ◌∙◌, arith}
+use Rattle.std.proofs.Common.{◌≡◌, ℕ, zero, suc, ◌+◌, ◌<◌, ◌≤◌, ◌^◌, Bool, true, false, if◌then◌else◌, eqb, not, ◌&&◌, ◌||◌, List, [], ◌∷◌, ◌++◌, length, All, refl, sym, ap, subst, ◌∙◌, arith}
 use Rattle.std.specs.List.{list_any, count_by, fold}
 use Rattle.std.proofs.lemmas.Bool.{ltb-true, leb-true}
 use Rattle.std.proofs.lemmas.List.{length-take, length-append, length-map}
@@ -12,7 +12,7 @@ use Rattle.nc_format.specs.declared.NcVar.{NcVar}
 use Rattle.nc_format.specs.declared.NcFile.{NcFile}
 use Rattle.nc_format.specs.Parts.{Part, field, items, padded}
 use Rattle.nc_format.specs.Grammar.{bounded, count, listed, is_record_dim, dim, next_dim, dim_list, att, att_list, dim_id, next_id, dim_ids, var, var_list, body}
-use Rattle.nc_format.specs.Placing.{placed, placed_vars, with_places, step_of}
+use Rattle.nc_format.specs.Placing.{placed, with_places, step_of}
 use Rattle.nc_format.specs.Header.{IsHeader}
 use Rattle.nc_format.specs.Sound.{IsSoundAtt, IsSoundVar, IsSound}
 

@@ -1,6 +1,6 @@
 -- The header of a document is spelled as the grammar says.
-use Rattle.std.proofs.Common.{◌≡◌, ◌≢◌, ℕ, ℤ, zero, suc, ◌+◌, ◌*◌, ◌^◌, ◌<◌, ◌≤◌, Bool, true, false, ltb, leb, eqb, not, if◌then◌else◌, ◌==◌, ◌&&◌, ◌||◌, ◌⊎◌, inl, inr, Ok, List, [], ◌∷◌, ◌++◌, length, map, take, drop, replicate, slice_index, All, refl, sym, ap, subst, ◌∙◌, append_assoc, arith}
-use Rattle.std.proofs.lemmas.Bool.{le-leb, le-ltb, lt-ltb, eqb-true}
+use Rattle.std.proofs.Common.{◌≡◌, ◌≢◌, ℕ, zero, suc, ◌+◌, ◌^◌, ◌<◌, ◌≤◌, Bool, true, false, ltb, leb, not, if◌then◌else◌, ◌==◌, ◌&&◌, ◌||◌, ◌⊎◌, inl, inr, Ok, List, [], ◌∷◌, ◌++◌, length, map, take, drop, replicate, slice_index, All, refl, sym, ap, subst, ◌∙◌, append_assoc, arith}
+use Rattle.std.proofs.lemmas.Bool.{le-leb, lt-ltb}
 use Rattle.std.proofs.lemmas.Bool.Decides.{nat_tests}
 use Rattle.std.proofs.lemmas.List.{append-nil, map-id, take_at, length-append, length-replicate, length-map}
 use Rattle.std.proofs.lemmas.List.Concat.{flat_map-cons}
@@ -21,7 +21,7 @@ use Rattle.nc_write.specs.Kinds.{type_number, size_of, value}
 use Rattle.nc_write.specs.Widths.{width, begin_width, number as spelled_number, offset, code}
 use Rattle.nc_write.specs.Extents.{pad_len, rounded}
 use Rattle.nc_write.specs.File.{kind_of, is_record, is_long, are_long, version_of, padded as with_padding, name as spelled_name, tagged, dimension, attribute, vsize, vsize_limit, shape, variable, variables, begin_of, fixed_len, first_len, fixed_total, piece_len, header, header_len, file_of, data_of}
-use Rattle.nc_write.specs.Form.{IsWellFormed, HasShortLists}
+use Rattle.nc_write.specs.Form.{IsWellFormed}
 use Rattle.nc_write.proofs.PartLengths.{length_number, length_value, length_padded, length_header_any}
 use Rattle.nc_write.proofs.Places.{has_its_values, length_file_of, first_within}
 use Rattle.nc_format.specs.declared.NcDim.{NcDim}

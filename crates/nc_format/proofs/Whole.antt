@@ -1,5 +1,5 @@
 -- A whole header: what is read is a header or its first fault, and nothing else is.
-use Rattle.std.proofs.Common.{◌≡◌, ◌↔◌, ◌⊎◌, inl, inr, ℕ, suc, ◌+◌, ◌<◌, ◌≤◌, Bool, true, false, ltb, eqb, ◌&&◌, ◌||◌, if◌then◌else◌, List, [], ◌∷◌, ◌++◌, length, drop, slice_index, map, All, Option, Some, None, Result, Ok, Err, refl, sym, ap, subst, ◌∙◌, append_assoc, arith}
+use Rattle.std.proofs.Common.{◌≡◌, ◌⊎◌, inl, inr, ℕ, ◌+◌, ◌<◌, ◌≤◌, Bool, true, false, ltb, eqb, ◌&&◌, if◌then◌else◌, List, [], ◌∷◌, ◌++◌, length, slice_index, All, Option, Some, None, Result, Ok, Err, refl, sym, ap, subst, ◌∙◌, append_assoc, arith}
 use Rattle.std.specs.List.{position, position_from, AllByRecursion}
 use Rattle.std.proofs.lemmas.Bool.{le-ltb, lt-ltb, eqb-true}
 use Rattle.std.proofs.lemmas.List.Elements.{All-from_recursion, recursion_from_All}
@@ -11,8 +11,8 @@ use Rattle.nc_format.specs.declared.fault.NcFault.TheVariants.{NotNetcdf, Trunca
 use Rattle.nc_format.specs.Grammar.{body}
 use Rattle.nc_format.specs.Parts.{on_value}
 use Rattle.nc_format.specs.Placing.{placed_vars, with_places, is_outside}
-use Rattle.nc_format.specs.Header.{magic, is_version, IsSpelled, IsHeader, HasNoMagic, HasOtherVersion, HasBadBody, HasDataOutside, IsFirstFault, magic_read, header_read, inside_or, finished, fields_in, header_in, fault_in, first_fault}
-use Rattle.nc_format.proofs.Lawful.{no_ok, no_err, ok_is, err_is, value_ok, value_err, if_ok, kept}
+use Rattle.nc_format.specs.Header.{magic, is_version, IsSpelled, IsHeader, HasNoMagic, HasOtherVersion, HasBadBody, IsFirstFault, magic_read, header_read, inside_or, finished, fields_in, header_in, fault_in, first_fault}
+use Rattle.nc_format.proofs.Lawful.{no_ok, no_err, ok_is, err_is, value_ok, value_err}
 use Rattle.nc_format.proofs.LawfulParts.{body_lawful}
 
 -- The magic.

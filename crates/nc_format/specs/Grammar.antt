@@ -1,6 +1,6 @@
 -- The grammar of a header, by the productions of the netCDF classic format specification; version 5 by CDF-5.
 -- The bound on counts and lengths, and what is let through, are this project's own. Numbers are read without sign.
-use Rattle.std.specs.Prelude.{◌≡◌, ℕ, zero, suc, ◌+◌, ◌*◌, List, [], ◌∷◌, ◌++◌, length, map, Bool, true, false, nat_lt, nat_le, ◌==◌, ◌&&◌, ◌||◌, not, if◌then◌else◌, slice_index}
+use Rattle.std.specs.Prelude.{ℕ, ◌*◌, List, [], length, map, Bool, nat_lt, nat_le, ◌==◌, ◌&&◌, ◌||◌, not, if◌then◌else◌, slice_index}
 use Rattle.std.specs.List.{list_any}
 use Rattle.nc_write.specs.declared.NcKind.{NcKind}
 use Rattle.nc_write.specs.declared.NcKind.TheVariants.{Byte, Char, Short, Int, Float, Double, UByte, UShort, UInt, Int64, UInt64}
@@ -10,7 +10,6 @@ use Rattle.nc_format.specs.declared.NcDim.{NcDim}
 use Rattle.nc_format.specs.declared.NcAtt.{NcAtt}
 use Rattle.nc_format.specs.declared.NcVar.{NcVar}
 use Rattle.nc_format.specs.declared.NcFile.{NcFile}
-use Rattle.nc_format.specs.declared.fault.NcFault.{NcFault}
 use Rattle.nc_format.specs.declared.fault.NcFault.TheVariants.{BadField, Streaming}
 use Rattle.nc_format.specs.Parts.{◌>>=◌, Part, gives, such_that, items, number, padded}
 

@@ -1,7 +1,6 @@
 -- Which bytes begin with a header, and what is the first fault of those that do not.
 use Rattle.std.specs.Prelude.{◌≡◌, ◌≢◌, ◌⊎◌, ℕ, List, ◌∷◌, ◌++◌, length, Option, Some, None, Result, Ok, Err, All, Bool, true, false, nat_lt, ◌==◌, ◌||◌, ◌&&◌, if◌then◌else◌, slice_index}
 use Rattle.std.specs.List.{position}
-use Rattle.nc_format.specs.declared.NcVar.{NcVar}
 use Rattle.nc_format.specs.declared.NcFile.{NcFile}
 use Rattle.nc_format.specs.declared.fault.NcFault.{NcFault}
 use Rattle.nc_format.specs.declared.fault.NcFault.TheVariants.{NotNetcdf, Truncated, BadField, DataOutside}

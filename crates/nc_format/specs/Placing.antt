@@ -1,6 +1,6 @@
 -- Where the values of variables stand, and which of them a file of some length holds (netCDF classic format
 -- specification, on the computation of variable offsets).
-use Rattle.std.specs.Prelude.{◌≡◌, ℕ, ◌+◌, ◌-◌, ◌*◌, List, map, Option, Bool, nat_lt, ◌==◌, ◌&&◌, not, if◌then◌else◌}
+use Rattle.std.specs.Prelude.{◌≡◌, ℕ, ◌+◌, ◌-◌, ◌*◌, List, map, Bool, nat_lt, ◌==◌, ◌&&◌, not, if◌then◌else◌}
 use Rattle.std.specs.List.{count_by, sum_by}
 use Rattle.nc_write.specs.Kinds.{size_of}
 use Rattle.nc_write.specs.Extents.{has_records, piece_count, share_of}

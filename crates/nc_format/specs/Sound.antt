@@ -1,5 +1,5 @@
 -- What holds of every header.
-use Rattle.std.specs.Prelude.{◌≡◌, ℕ, ◌+◌, ◌*◌, ◌≤◌, ◌<◌, ◌^◌, List, length, All, ◌==◌}
+use Rattle.std.specs.Prelude.{◌≡◌, ℕ, ◌+◌, ◌*◌, ◌≤◌, ◌<◌, ◌^◌, length, All}
 use Rattle.std.specs.List.{count_by, sum_by}
 use Rattle.nc_write.specs.Kinds.{size_of}
 use Rattle.nc_format.specs.declared.NcAtt.{NcAtt}

@@ -72,6 +72,17 @@ fn bytes_of(rt: &HostRuntime, digits: &str) -> Result<Vec<u8>, Fail>
     Ok(bytes)
 }
 
+// The mesh file with some bytes changed.
+fn edited(rt: &HostRuntime, edits: &[(usize, u8)]) -> Result<Vec<u8>, Fail> {
+    let mut bytes = bytes_of(rt, SMALLEST_CUBED_SPHERE)?;
+    for (at, new) in edits {
+        if let Some(byte) = bytes.get_mut(*at) {
+            *byte = *new;
+        }
+    }
+    Ok(bytes)
+}
+
 #[test]
 fn damaged(rt: HostRuntime) -> Result<(), Fail> {
     let rows: [(&[(usize, u8)], Option<NcFault>); 15] = [
@@ -101,12 +112,8 @@ fn damaged(rt: HostRuntime) -> Result<(), Fail> {
         (&[(198, 1), (199, 88)], None),
     ];
     for (edits, want) in rows {
-        let mut bytes = bytes_of(&rt, SMALLEST_CUBED_SPHERE)?;
-        for (at, new) in edits {
-            if let Some(byte) = bytes.get_mut(*at) {
-                *byte = *new;
-            }
-        }
+        let bytes = edited(&rt, edits)?;
+        assert_eq!(rt; bytes.len(), 440);
         assert_eq!(rt; read_header(rt.alloc(), &bytes, 440).err(), want);
     }
     Ok(())

@@ -1,5 +1,4 @@
-use Rattle.std.proofs.Common.{◌≡◌, Some, sym}
-use Rattle.nc_format.specs.Numbers.{att_named}
+use Rattle.std.proofs.Common.{sym}
 use Rattle.nc_format.proofs.Names.{found_is_sound}
 use Rattle.nc_format.proofs.lookup.int_att.Goals as goal
 

@@ -1,5 +1,4 @@
-use Rattle.std.proofs.Common.{◌≡◌, ◌++◌, ◌+◌, ◌*◌, slice_range, length, arith, sym, ap, ◌∙◌}
-use Rattle.std.specs.List.{flat_map, range_with_len}
+use Rattle.std.proofs.Common.{◌≡◌, ◌++◌, ◌*◌, length, arith, sym, ap, ◌∙◌}
 use Rattle.nc_write.proofs.Records.{flat_range_more}
 use Rattle.nc_format.specs.Numbers.{piece_of}
 use Rattle.nc_format.proofs.Pieces.{gathered_len}

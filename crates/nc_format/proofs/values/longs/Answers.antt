@@ -1,5 +1,4 @@
-use Rattle.std.proofs.Common.{◌≡◌, ℕ, ℤ, ◌++◌, ◌∷◌, [], ◌-◌, ◌*◌, length, drop, take, map, arith, rules, sym, ap, ◌∙◌, length-drop}
-use Rattle.std.specs.List.{range_with_len}
+use Rattle.std.proofs.Common.{◌≡◌, ℕ, ℤ, ◌++◌, ◌∷◌, [], ◌-◌, ◌*◌, length, drop, take, arith, rules, sym, ap, ◌∙◌, length-drop}
 use Rattle.std.proofs.lemmas.List.{take_all}
 use Rattle.std.proofs.lemmas.List.FromFn.{map-range_with_len_more}
 use Rattle.nc_write.specs.Kinds.{size_of}

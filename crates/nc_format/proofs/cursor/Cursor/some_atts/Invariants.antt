@@ -1,4 +1,4 @@
-use Rattle.std.proofs.Common.{◌≡◌, length, [], ◌-◌}
+use Rattle.std.proofs.Common.{◌≡◌, [], ◌-◌}
 use Rattle.nc_format.specs.Parts.{items}
 use Rattle.nc_format.specs.Grammar.{att}
 use Rattle.nc_format.proofs.cursor.Cursor.some_atts.Given as goal
