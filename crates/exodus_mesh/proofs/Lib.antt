@@ -1,2 +1,12 @@
+mod Blocks
+mod Repeats
+mod Rows
+pub mod AcceptedFaces
+pub mod FoundVars
+pub mod NodesAgain
+pub mod ReadAgain
+pub mod ReadValues
+pub mod Unrepeated
+pub mod VarValues
 mod Widths
 pub mod MeshLength

@@ -204,10 +204,11 @@ mesh_document_form raw some_node some_face counts low high =
       lens = All-from_recursion (λ d. d.len ≤ 4294967295) doc.dims (lit≤ tt, (omega (arith, counts.node_limit), (omega (arith, counts.face_limit), (lit≤ tt, (omega (arith, counts.face_limit), (high, tt))))));
       one_record_dim = no_record_dimension (length raw.nodes) (length raw.faces) (width_of raw.faces) some_node some_face low;
       ids = All-from_recursion (λ v. All (λ id. id < 6) v.dims) doc.vars
-      (All-from_recursion (λ id. id < 6) (0 ∷ 1 ∷ []) (lit< tt, (lit< tt, tt)), (All-from_recursion (λ id. id < 6) (4 ∷ 5 ∷ []) (lit< tt, (lit< tt, tt)), tt));
-      record_dim_first = All-from_recursion (λ v. All (λ id. slice_index (lens_of doc) id ≢ 0) (drop 1 v.dims)) doc.vars
-      (All-from_recursion (λ id. slice_index (lens_of doc) id ≢ 0) (1 ∷ []) (not_none (length raw.nodes) some_node, tt),
-      (All-from_recursion (λ id. slice_index (lens_of doc) id ≢ 0) (5 ∷ []) (not_none (width_of raw.faces) low, tt), tt));
+          (All-from_recursion (λ id. id < 6) (0 ∷ 1 ∷ []) (lit< tt, (lit< tt, tt)), (All-from_recursion (λ id. id < 6) (4 ∷ 5 ∷ []) (lit< tt, (lit< tt, tt)), tt));
+      record_dim_first = All-from_recursion (λ v. All (λ id. slice_index (lens_of doc) id ≢ 0) (drop 1 v.dims)) doc.vars (
+        All-from_recursion (λ id. slice_index (lens_of doc) id ≢ 0) (1 ∷ []) (not_none (length raw.nodes) some_node, tt),
+        (All-from_recursion (λ id. slice_index (lens_of doc) id ≢ 0) (5 ∷ []) (not_none (width_of raw.faces) low, tt), tt),
+      );
       values = All-from_recursion (λ v. length (numbers_of v.values) ≡ product_of (full_lens doc) v.dims) doc.vars (coord_values raw, (connect_values raw, tt));
       records = lit< tt;
       no_records = λ _. refl;

@@ -1,6 +1,10 @@
 // The document of a mesh.
-ghost use Rattle.std.specs.Prelude.{◌≡◌, ◌≢◌, ◌<◌, ◌≤◌, ◌^◌, ◌+◌, ◌*◌, IfOk, OnOk, All, length, []};
+ghost use Rattle.std.specs.Prelude.{◌≡◌, ◌≢◌, ◌<◌, ◌≤◌, ◌^◌, ◌+◌, ◌*◌, IfOk, OnOk, All, length, [], Ok};
 ghost use Rattle.vec_exact.specs.Counts.{AreAllowedCounts};
+ghost use Rattle.nc_format.specs.declared.NcFile.{NcFile};
+ghost use Rattle.nc_format.specs.Header.{IsHeader};
+ghost use Rattle.mesh_check.specs.Mesh.{IsAcceptedMesh};
+ghost use Rattle.exodus_mesh.specs.MeshIn.{mesh_in};
 ghost use Rattle.nc_write.specs.File.{file_of};
 ghost use Rattle.nc_write.specs.Form.{IsWellFormed};
 ghost use Rattle.exodus_mesh.specs.MeshDocument.{dimensions_of, mesh_document, width_of};
@@ -54,6 +58,13 @@ fn make_document(alloc: Global, raw: &RawMesh, most: usize) -> Result<NcDoc, All
     })
 }
 
+// Each node has three numbers, as its type says.
+fn triples(nodes: &[[i32; 3]])
+    ensures { All (λ node. length node ≡ 3) nodes.now }
+{
+    let _nodes = nodes;
+}
+
 /// The document of a mesh: the dimensions `num_dim`, `num_nodes`, `num_elem`, `num_el_blk`,
 /// `num_el_in_blk1` and `num_nod_per_el1`, and the variables `coord` and `connect1`, both INT
 /// (names of Exodus II). A face with fewer nodes than the widest one repeats its last number.
@@ -71,8 +82,12 @@ pub fn mesh_doc(alloc: Global, raw: &RawMesh) -> Result<NcDoc, NoMemory>
     // It is a document that can be written, and its file has this length.
     ensures well_formed { IfOk result IsWellFormed }
     ensures file_length { IfOk result (λ doc. length (file_of doc) ≡ 248 + 12 * length raw.now.nodes + 4 * (length raw.now.faces * width_of raw.now.faces)) }
+
+    // An accepted mesh is read again from it.
+    ensures read_again { IfOk result (λ doc. IsAcceptedMesh raw.now → (f : NcFile) → IsHeader (file_of doc) (length (file_of doc)) f → mesh_in f (file_of doc) ≡ Ok raw.now) }
 {
     let most = width(&raw.faces.items);
+    triples(&raw.nodes.items);
     let doc = make_document(alloc, raw, most)?;
     Ok(doc)
 }

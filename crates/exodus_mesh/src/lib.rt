@@ -4,6 +4,21 @@
 mod connect;
 mod coord;
 mod document;
+mod finding;
+mod ids;
+mod laws;
 mod names;
+mod reading;
+#[cfg(test)]
+mod tests;
+mod values;
+mod variables;
+mod vars;
 
 pub use document::mesh_doc;
+pub use finding::find_mesh;
+pub use ids::{NameFault, NameId};
+pub use laws::law_mesh_read_again;
+pub use reading::read_mesh;
+pub use values::mesh_from;
+pub use vars::{BlockVar, BlockVars, CoordVars, MeshVars};

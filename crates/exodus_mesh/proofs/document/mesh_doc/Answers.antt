@@ -1,6 +1,12 @@
-use Rattle.std.proofs.Common.{◌≡◌, ◌∙◌, ◌≤◌, ap, sym, subst, length, arith, rules}
+use Rattle.std.proofs.Common.{◌≡◌, ◌∙◌, ◌≤◌, ap, sym, subst, length, arith, rules, Ok, All, List, ℤ}
 use Rattle.nc_write.specs.File.{file_of}
 use Rattle.nc_write.specs.Form.{IsWellFormed}
+use Rattle.nc_write.specs.declared.NcDoc.{NcDoc}
+use Rattle.nc_format.specs.declared.NcFile.{NcFile}
+use Rattle.nc_format.specs.Header.{IsHeader}
+use Rattle.mesh_check.specs.Mesh.{IsAcceptedMesh}
+use Rattle.exodus_mesh.specs.MeshIn.{mesh_in, HasTriples}
+use Rattle.exodus_mesh.proofs.ReadAgain.{read_again}
 use Rattle.exodus_mesh.specs.MeshDocument.{width_of}
 use Rattle.exodus_mesh.proofs.MeshLength.{width_least, width_greatest, mesh_document_form, length_mesh_file}
 use Rattle.exodus_mesh.proofs.document.mesh_doc.Goals as goal
@@ -18,3 +24,9 @@ returns-clause-well_formed c =
 
 pub returns-clause-file_length : goal.returns-clause-file_length
 returns-clause-file_length c = ap (λ doc. length (file_of doc)) c.in_ok-doc.ensures ∙ length_mesh_file c.args.raw.now c.requires.faces
+
+pub returns-clause-read_again : goal.returns-clause-read_again
+returns-clause-read_again c =
+    let same : c.deref-2.result.now ≡ c.args.raw.now.nodes = search rules in
+    let triples : HasTriples c.args.raw.now = subst (λ (nodes : List (List ℤ)). All (λ node. length node ≡ 3) nodes) same c.triples.ensures in
+    subst (λ (doc : NcDoc). IsAcceptedMesh c.args.raw.now → (f : NcFile) → IsHeader (file_of doc) (length (file_of doc)) f → mesh_in f (file_of doc) ≡ Ok c.args.raw.now) (sym c.in_ok-doc.ensures) (λ a f h. read_again c.args.raw.now f a triples h)

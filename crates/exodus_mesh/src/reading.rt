@@ -1,0 +1,97 @@
+// The mesh of a whole file.
+ghost use Rattle.std.specs.Prelude.{◌≡◌, ℕ, length, All, IfOk, OnOk, Ok, ◌++◌, ◌∷◌, [], List};
+ghost use Rattle.vec_exact.specs.Counts.{AreAllowedCounts};
+ghost use Rattle.nc_format.specs.Header.{IsHeader};
+ghost use Rattle.exodus_mesh.specs.MeshNames.{mesh_vars_in};
+ghost use Rattle.exodus_mesh.specs.Found.{IsIntVar, AreCoordVars, IsBlockVar};
+ghost use Rattle.exodus_mesh.specs.MeshIn.{values_in, coords_in, rows_in, mesh_at, mesh_in};
+
+use crate::variables::var_at;
+use crate::{BlockVar, CoordVars, MeshVars, mesh_from};
+use nc_format::{NcFile, gather, int_values};
+use std::alloc::{AllocError, Global};
+use vec_exact::{Ints, NoMemory, RawMesh};
+
+// The numbers of the variable at a place.
+fn values(alloc: Global, file: &NcFile, bytes: &[u8], place: u32) -> Result<Ints, NoMemory>
+    requires header { IsHeader bytes.now (length bytes.now) file.now }
+    requires var { (lens : List ℕ) × IsIntVar file.now lens place }
+    ensures { IfOk result (λ ints. ints ≡ values_in file.now bytes.now place) }
+{
+    let Some(var) = var_at(file, place) else {
+        return Ok(Ints {
+            items: Vec::new(alloc),
+        });
+    };
+    let spelled = gather(alloc, var, bytes)?;
+    let items = int_values(alloc, var.kind, &spelled)?;
+    Ok(Ints { items })
+}
+
+fn coords(
+    alloc: Global,
+    file: &NcFile,
+    bytes: &[u8],
+    coord: CoordVars,
+) -> Result<Vec<Ints>, NoMemory>
+    requires header { IsHeader bytes.now (length bytes.now) file.now }
+    requires vars { (nodes : ℕ) × AreCoordVars file.now nodes coord }
+    ensures { IfOk result (λ lists. lists.items ≡ coords_in file.now bytes.now coord) }
+{
+    let mut lists = Vec::new(alloc);
+    match coord {
+        CoordVars::Whole(coord) => {
+            push(&mut lists, values(alloc, file, bytes, coord)?)?;
+        }
+        CoordVars::Split(x, y, z) => {
+            push(&mut lists, values(alloc, file, bytes, x)?)?;
+            push(&mut lists, values(alloc, file, bytes, y)?)?;
+            push(&mut lists, values(alloc, file, bytes, z)?)?;
+        }
+    }
+    Ok(lists)
+}
+
+fn rows(
+    alloc: Global,
+    file: &NcFile,
+    bytes: &[u8],
+    blocks: &[BlockVar],
+) -> Result<Vec<Ints>, NoMemory>
+    requires header { IsHeader bytes.now (length bytes.now) file.now }
+    requires vars { All (IsBlockVar file.now) blocks.now }
+    ensures { IfOk result (λ lists. lists.items ≡ rows_in file.now bytes.now blocks.now) }
+{
+    let mut lists = Vec::new(alloc);
+    for block in blocks {
+        push(&mut lists, values(alloc, file, bytes, block.var)?)?;
+    }
+    Ok(lists)
+}
+
+fn push(lists: &mut Vec<Ints>, list: Ints) -> Result<(), NoMemory>
+    ensures { OnOk result (lists.new.items ≡ lists.old.items ++ list ∷ []) }
+{
+    lists.push(list).map_err(AllocError::from)?;
+    Ok(())
+}
+
+/// The mesh of the variables `vars` in the file with the bytes `bytes` and the header `file`, for
+/// which `find_mesh` gives `vars`; the counts pass `check_counts`. Its nodes and faces are as
+/// `mesh_from` says.
+pub fn read_mesh(
+    alloc: Global,
+    file: &NcFile,
+    vars: &MeshVars,
+    bytes: &[u8],
+) -> Result<RawMesh, NoMemory>
+    requires found { mesh_vars_in file.now ≡ Ok vars.now }
+    requires header { IsHeader bytes.now (length bytes.now) file.now }
+    requires counts { AreAllowedCounts vars.now.nodes vars.now.faces }
+    ensures mesh { IfOk result (λ raw. raw ≡ mesh_at file.now bytes.now vars.now) }
+    ensures mesh_in { IfOk result (λ raw. mesh_in file.now bytes.now ≡ Ok raw) }
+{
+    let coords = coords(alloc, file, bytes, vars.coord)?;
+    let rows = rows(alloc, file, bytes, &vars.blocks.items)?;
+    mesh_from(alloc, vars, &coords, &rows)
+}

@@ -1,0 +1,17 @@
+pub mod Loop
+pub mod Stops
+pub mod Outside
+pub mod Lawful
+pub mod LawfulParts
+pub mod Whole
+pub mod SoundParts
+pub mod Clauses
+pub mod Prefix
+pub mod Names
+pub mod Spelled
+pub mod Cut
+pub mod Inside
+pub mod ReadBack
+pub mod Gathered
+pub mod Few
+pub mod Pieces
