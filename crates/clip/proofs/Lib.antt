@@ -7,3 +7,4 @@ pub mod Pair
 pub mod Answered
 pub mod RingFacts
 pub mod PieceOrder
+pub mod Separated

@@ -6,6 +6,7 @@ mod overlap;
 mod pairs;
 mod pieces;
 mod rings;
+mod separation;
 mod sides;
 #[cfg(test)]
 mod tests;

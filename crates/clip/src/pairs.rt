@@ -10,6 +10,7 @@ ghost use Rattle.clip.specs.Planes.{HasInside, EachIs37, NoneIsZero, AreEdgesOf,
 
 use crate::lists::{PlaneList, Ring};
 use crate::rings::{cut, start};
+use crate::separation::keeps_apart;
 use mesh_check::{Mesh, edge_count, plane};
 use std::sync::ledger::Ledger;
 use vec_exact::Steps;
@@ -71,6 +72,9 @@ fn ring_of_pair(a: &Mesh, i: u32, b: &Mesh, j: u32) -> Option<Ring>
     ensures source { IsAcceptedFace (corners_of a.now i) }
     ensures target { IsAcceptedFace (corners_of b.now j) }
 {
+    if keeps_apart(a, i, b, j) || keeps_apart(b, j, a, i) {
+        return None;
+    }
     let planes = planes(a, i, b, j);
     ring_of(&planes, edge_count(a, i) as u8)
 }

@@ -58,8 +58,8 @@ fn begin_with_least(ring: &mut Ring)
     ensures turned { (j : ℕ) × j < length ring.old.items × RotatedLeft ring.old.items ring.new.items (length ring.old.items) j }
     ensures len { length ring.new.items ≡ length ring.old.items }
 {
-    let first = least_place(ring);
-    turn(ring, first);
+    let least = least_place(ring);
+    turn(ring, least);
 }
 
 // Puts plane m into the gap that begins behind the run of positive corners after place t, in place

@@ -51,7 +51,6 @@ pub fn rise(sides: &[i128]) -> Option<usize>
 
 // How many corners are positive from place `first` on, cyclically.
 pub fn positive_run(sides: &[i128], first: usize) -> usize
-    requires fits { length sides.now ≤ 32 }
     requires first { first < length sides.now }
     ensures within { result ≤ length sides.now }
     ensures positive { (u : ℕ) → u < result → pos 0 <ℤ slice_index_or sides.now (shifted (length sides.now) first u) (pos 0) }

@@ -7,11 +7,6 @@ use Rattle.clip.proofs.Gap.{Filled, filled_cycle}
 use Rattle.clip.proofs.Size.{cycle_size}
 use Rattle.clip.proofs.rings.fill_gap.Goals as goal
 
-pub positive_run-kept-requires-clause-fits : goal.positive_run-kept-requires-clause-fits
-positive_run-kept-requires-clause-fits c =
-    let s = cycle_size (plane c.args.planes.now.items) (c.args.m - 1) (length c.args.ring.now.items) (slice_index c.args.ring.now.items) c.requires.cycle in
-    omega (arith, s, c.requires.sides.len, c.requires.room.1)
-
 pub push-requires : goal.push-requires
 push-requires c =
     let s = cycle_size (plane c.args.planes.now.items) (c.args.m - 1) (length c.args.ring.now.items) (slice_index c.args.ring.now.items) c.requires.cycle in

@@ -1,0 +1,56 @@
+// Faces that the plane of an edge keeps apart: found from the nodes, without any clipping.
+ghost use Rattle.std.specs.Prelude.{◌≡◌, ◌<◌, ℕ, pos, ◌≤ℤ◌, length, IsTrue};
+ghost use Rattle.vec_exact.specs.Vector.{inner};
+ghost use Rattle.vec_exact.specs.Size.{Is37};
+ghost use Rattle.vec_exact.specs.Cycle.{vector_at};
+ghost use Rattle.vec_exact.specs.Face.{vector_of, IsAcceptedFace};
+ghost use Rattle.cone_laws.specs.Inside.{Meets};
+ghost use Rattle.mesh_check.specs.Mesh.{face_of, corners_of};
+ghost use Rattle.clip.specs.Planes.{IsFaceNumber};
+
+use mesh_check::{Mesh, edge_count, node, plane};
+use vec_exact::{Vec3, dot};
+
+fn vector(node: [i32; 3]) -> Vec3
+    ensures { result ≡ vector_of node }
+{
+    Vec3 {
+        x: i128::from(node[0]),
+        y: i128::from(node[1]),
+        z: i128::from(node[2]),
+    }
+}
+
+// Whether no node of the face, which has `count` nodes, is on the positive side of the plane.
+fn is_beyond(plane: Vec3, mesh: &Mesh, face: u32, count: u32) -> bool
+    requires size { Is37 plane }
+    requires face { IsFaceNumber mesh.now face }
+    requires count { count ≡ length (face_of mesh.now face) }
+    ensures { IsTrue result → (t : ℕ) → t < length (corners_of mesh.now face)
+        → inner plane (vector_at (corners_of mesh.now face) t) ≤ℤ pos 0 }
+{
+    for t in 0..count {
+        if dot(plane, vector(node(mesh, face, t + 1))) > 0 {
+            return false;
+        }
+    }
+    true
+}
+
+// Whether some edge of face i of `a` has no node of face j of `b` on its positive side. Then the two
+// faces have no direction inside both.
+pub fn keeps_apart(a: &Mesh, i: u32, b: &Mesh, j: u32) -> bool
+    requires source { IsFaceNumber a.now i }
+    requires target { IsFaceNumber b.now j }
+    ensures apart { IsTrue result → ¬ Meets (corners_of a.now i) (corners_of b.now j) }
+    ensures source { IsAcceptedFace (corners_of a.now i) }
+    ensures target { IsAcceptedFace (corners_of b.now j) }
+{
+    let count = edge_count(b, j);
+    for t in 0..edge_count(a, i) {
+        if is_beyond(plane(a, i, t + 1), b, j, count) {
+            return true;
+        }
+    }
+    false
+}
