@@ -1,0 +1,4 @@
+mod Ranges
+mod Rounded
+pub mod Counts
+mod Faults

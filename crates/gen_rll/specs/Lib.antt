@@ -1,0 +1,2 @@
+pub mod Trigonometry
+pub mod LatitudeLongitude
