@@ -6,6 +6,8 @@ mod failing;
 #[cfg(test)]
 mod generators;
 #[cfg(test)]
+mod machine;
+#[cfg(test)]
 mod runs;
 #[cfg(test)]
 mod words;
