@@ -1,9 +1,9 @@
 -- In an accepted face no number is repeated by its neighbour, since then an edge would have no length; and all numbers of an accepted mesh fit 32 bits.
-use Rattle.std.proofs.Common.{◌≡◌, ◌≢◌, ◌<◌, ◌≤◌, ◌+◌, ◌-◌, ◌^◌, ℕ, zero, suc, ℤ, pos, ◌<ℤ◌, List, [], ◌∷◌, ◌++◌, length, map, replicate, unsigned_abs, All, FitsSigned, refl, ap, ap₂, sym, subst, ◌∙◌, arith, slice_index_or}
+use Rattle.std.proofs.Common.{◌≡◌, ◌≢◌, ◌<◌, ◌≤◌, ◌-◌, ◌^◌, ℕ, suc, ℤ, pos, ◌<ℤ◌, List, [], ◌∷◌, ◌++◌, length, replicate, unsigned_abs, All, FitsSigned, ap, sym, subst, ◌∙◌, arith, slice_index_or}
 use Rattle.std.specs.List.{flat_map, AllByRecursion}
 use Rattle.std.specs.Int.{w32}
 use Rattle.std.proofs.lemmas.Int.{ints, fits_signed_from_abs}
-use Rattle.std.proofs.lemmas.List.Elements.{All-append, All-replicate, All-map, All-head, All-tail, All-get_or, All-nil}
+use Rattle.std.proofs.lemmas.List.Elements.{All-append, All-replicate, All-map, All-head, All-tail, All-nil}
 use Rattle.vec_exact.specs.declared.Vec3.{Vec3}
 use Rattle.vec_exact.specs.Vector.{det}
 use Rattle.vec_exact.specs.Cycle.{after, vector_at}

@@ -1,4 +1,5 @@
 mod Blocks
+mod FirstPlaces
 mod Repeats
 mod Rows
 pub mod AcceptedFaces

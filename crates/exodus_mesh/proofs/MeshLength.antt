@@ -1,5 +1,5 @@
 -- How long the file of a mesh is, and that its document is well formed.
-use Rattle.std.proofs.Common.{◌≡◌, ◌≢◌, ◌+◌, ◌*◌, ◌-◌, ◌%◌, ◌≤◌, ◌<◌, ◌^◌, ◌==◌, ℕ, ℤ, zero, suc, Bool, true, false, cond, max, pos, List, [], ◌∷◌, ◌++◌, length, map, drop, fold, replicate, refl, ap, ap₂, sym, subst, ◌∙◌, if◌then◌else◌, arith, mul-le-mul, lit<, lit≤, length-append, slice_index_or, slice_index, All, sum_by}
+use Rattle.std.proofs.Common.{◌≡◌, ◌≢◌, ◌+◌, ◌*◌, ◌-◌, ◌%◌, ◌≤◌, ◌<◌, ◌^◌, ◌==◌, ℕ, ℤ, zero, suc, false, cond, max, pos, List, [], ◌∷◌, ◌++◌, length, map, drop, fold, replicate, refl, ap, ap₂, sym, ◌∙◌, if◌then◌else◌, arith, mul-le-mul, lit<, lit≤, length-append, slice_index_or, slice_index, All, sum_by}
 use Rattle.std.proofs.lemmas.Bool.Decides.{nat_tests}
 use Rattle.std.proofs.Math.Nat.{mul-mod_right}
 use Rattle.std.proofs.lemmas.List.Sums.{sum_by-cons}
@@ -12,7 +12,7 @@ use Rattle.nc_write.specs.declared.DocVar.{DocVar}
 use Rattle.nc_write.specs.declared.NcDoc.{NcDoc}
 use Rattle.nc_write.specs.declared.Values.TheVariants.{Int}
 use Rattle.nc_write.specs.Kinds.{size_of}
-use Rattle.nc_write.specs.Extents.{pad_len, rounded, product_of, has_records}
+use Rattle.nc_write.specs.Extents.{rounded, product_of, has_records}
 use Rattle.nc_write.specs.Widths.{width, number}
 use Rattle.nc_write.specs.File.{version_of, lens_of, kind_of, numbers_of, is_record, fixed_data, header_len, dimension, attribute, name, variable, file_of}
 use Rattle.nc_write.specs.Form.{IsWellFormed, full_lens}

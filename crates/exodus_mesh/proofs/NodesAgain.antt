@@ -1,7 +1,7 @@
 -- The nodes of a mesh are what its coordinates give again.
-use Rattle.std.proofs.Common.{◌≡◌, ◌<◌, ◌≤◌, ◌+◌, ◌*◌, ℕ, zero, suc, ℤ, pos, List, [], ◌∷◌, ◌++◌, length, map, take, drop, All, refl, ap, ap₂, sym, subst, ◌∙◌, arith, slice_index_or, append_assoc, length-append}
+use Rattle.std.proofs.Common.{◌≡◌, ◌<◌, ◌*◌, ℕ, ℤ, pos, List, [], ◌∷◌, ◌++◌, length, map, take, drop, All, refl, ap, ap₂, ◌∙◌, arith, slice_index_or, append_assoc, length-append}
 use Rattle.std.specs.List.{range_with_len}
-use Rattle.std.proofs.lemmas.List.{length-map, get_or-map, ext_get_or, append-nil, take_all}
+use Rattle.std.proofs.lemmas.List.{length-map, get_or-map, ext_get_or, take_all}
 use Rattle.std.proofs.lemmas.List.FromFn.{length-map-range_with_len, get_or-map-range_with_len}
 use Rattle.exodus_mesh.specs.MeshDocument.{component}
 use Rattle.exodus_mesh.specs.declared.vars.CoordVars.TheVariants.{Whole}

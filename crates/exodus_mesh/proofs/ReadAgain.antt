@@ -1,13 +1,12 @@
 -- An accepted mesh is read again from the file of its document.
-use Rattle.std.proofs.Common.{◌≡◌, ◌≢◌, ◌<◌, ◌≤◌, ◌+◌, ◌*◌, ◌==◌, ℕ, zero, suc, ℤ, pos, Bool, true, false, cond, if◌then◌else◌, min, List, [], ◌∷◌, ◌++◌, length, map, All, Option, Some, None, Result, Ok, Err, refl, ap, ap₂, sym, subst, ◌∙◌, arith, slice_index_or, nat_lt}
-use Rattle.std.specs.List.{flat_map, AllByRecursion, sum_by}
+use Rattle.std.proofs.Common.{◌≡◌, ◌≢◌, ◌≤◌, ◌==◌, ℕ, ℤ, pos, false, List, [], ◌∷◌, ◌++◌, length, All, Ok, refl, ap, ap₂, subst, ◌∙◌, arith, slice_index_or}
+use Rattle.std.specs.List.{flat_map, sum_by}
 use Rattle.std.specs.Fmt.{digits}
 use Rattle.std.proofs.lemmas.Int.{ints}
 use Rattle.std.proofs.lemmas.Bool.Decides.{nat_tests}
-use Rattle.std.proofs.lemmas.List.Elements.{All-from_recursion, All-get_or}
+use Rattle.std.proofs.lemmas.List.Elements.{All-from_recursion}
 use Rattle.std.proofs.lemmas.List.{append-nil}
 use Rattle.vec_exact.specs.declared.RawMesh.{RawMesh}
-use Rattle.vec_exact.specs.Counts.{AreAllowedCounts}
 use Rattle.vec_exact.specs.Face.{IsAccepted}
 use Rattle.vec_exact.proofs.Accepted.{length-face_nodes}
 use Rattle.nc_write.specs.File.{file_of}
@@ -20,9 +19,6 @@ use Rattle.nc_format.proofs.Whole.{one_header}
 use Rattle.nc_format.proofs.Inside.{doc_header}
 use Rattle.nc_format.proofs.Gathered.{doc_values}
 use Rattle.mesh_check.specs.Mesh.{IsAcceptedMesh}
-use Rattle.mesh_check.specs.FirstFault.{count_fault}
-use Rattle.exodus_mesh.specs.declared.ids.NameId.TheVariants.{Coord, Connect}
-use Rattle.exodus_mesh.specs.declared.ids.NameFault.{NameFault}
 use Rattle.exodus_mesh.specs.declared.vars.CoordVars.{CoordVars}
 use Rattle.exodus_mesh.specs.declared.vars.CoordVars.TheVariants.{Whole}
 use Rattle.exodus_mesh.specs.declared.vars.BlockVar.{BlockVar}
@@ -31,7 +27,7 @@ use Rattle.exodus_mesh.specs.Names.{name_of, ◌>>=◌}
 use Rattle.exodus_mesh.specs.MeshDocument.{mesh_document, width_of, component, filled}
 use Rattle.exodus_mesh.specs.MeshNames.{int_lens, coord_in, nodes_in, whole_nodes, block_count_in, block_in, blocks_in, mesh_vars_in}
 use Rattle.exodus_mesh.specs.MeshValues.{mesh_of, nodes_of, faces_of}
-use Rattle.exodus_mesh.specs.MeshIn.{values_in, coords_in, rows_in, mesh_at, mesh_count_fault, mesh_in, MeshInFault, HasTriples}
+use Rattle.exodus_mesh.specs.MeshIn.{values_in, mesh_at, mesh_in, HasTriples}
 use Rattle.exodus_mesh.proofs.Widths.{all_within_each}
 use Rattle.exodus_mesh.proofs.MeshLength.{width_greatest, width_least, mesh_document_form}
 use Rattle.exodus_mesh.proofs.Unrepeated.{faces_again}

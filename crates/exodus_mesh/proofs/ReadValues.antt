@@ -1,5 +1,5 @@
 -- A mesh that is read is the mesh in the file.
-use Rattle.std.proofs.Common.{◌≡◌, ◌≤◌, ◌<◌, ℕ, Bool, true, false, min, List, Option, Some, None, Result, Ok, Err, refl, ap, sym, subst, ◌∙◌, arith, nat_lt}
+use Rattle.std.proofs.Common.{◌≡◌, ◌≤◌, ℕ, false, min, List, None, Result, Ok, Err, refl, ap, sym, ◌∙◌, arith, nat_lt}
 use Rattle.std.specs.Prelude.{IfOk}
 use Rattle.std.proofs.lemmas.Bool.Decides.{nat_tests}
 use Rattle.vec_exact.specs.declared.RawMesh.{RawMesh}
@@ -8,7 +8,7 @@ use Rattle.vec_exact.specs.Counts.{AreAllowedCounts}
 use Rattle.nc_format.specs.declared.NcFile.{NcFile}
 use Rattle.exodus_mesh.specs.declared.vars.MeshVars.{MeshVars}
 use Rattle.exodus_mesh.specs.MeshNames.{mesh_vars_in}
-use Rattle.exodus_mesh.specs.MeshIn.{mesh_at, mesh_count_fault, mesh_in, MeshInFault}
+use Rattle.exodus_mesh.specs.MeshIn.{mesh_at, mesh_count_fault, mesh_in}
 
 -- counts within their limits are no fault
 pub no_count_fault : (vars : MeshVars) → AreAllowedCounts vars.nodes vars.faces → mesh_count_fault vars ≡ None

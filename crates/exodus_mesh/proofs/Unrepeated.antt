@@ -1,11 +1,10 @@
 -- A face in which no number is repeated by its neighbour is what its row gives again, padded or not.
-use Rattle.std.proofs.Common.{◌≡◌, ◌≢◌, ◌<◌, ◌≤◌, ◌+◌, ◌-◌, ◌*◌, ℕ, zero, suc, ℤ, pos, Bool, true, false, cond, if◌then◌else◌, List, [], ◌∷◌, ◌++◌, length, map, take, drop, replicate, refl, ap, ap₂, sym, subst, ◌∙◌, arith, slice_index_or, length-append, append_assoc}
+use Rattle.std.proofs.Common.{◌≡◌, ◌≢◌, ◌<◌, ◌≤◌, ◌-◌, ℕ, zero, suc, ℤ, pos, Bool, true, false, cond, List, [], ◌∷◌, ◌++◌, length, map, take, drop, replicate, refl, ap, ap₂, ◌∙◌, arith, slice_index_or, length-append}
 use Rattle.std.specs.List.{flat_map, AllByRecursion}
-use Rattle.std.specs.Ordering.{int_eq}
-use Rattle.std.proofs.lemmas.List.{length-replicate, append-nil}
+use Rattle.std.proofs.lemmas.List.{length-replicate}
 use Rattle.std.proofs.lemmas.Bool.Decides.{nat_tests}
 use Rattle.exodus_mesh.specs.MeshDocument.{filled}
-use Rattle.exodus_mesh.specs.MeshValues.{kept_behind, without_repeats, closes, opened, face_of_row, rows_of}
+use Rattle.exodus_mesh.specs.MeshValues.{kept_behind, without_repeats, opened, face_of_row, rows_of}
 use Rattle.exodus_mesh.proofs.Repeats.{int_same, int_other}
 
 -- no number of a face equals the one before it, and the last does not equal the first

@@ -1,6 +1,5 @@
 -- How many numbers the variables of a mesh have in a file.
-use Rattle.std.proofs.Common.{◌≡◌, ◌≢◌, ◌==◌, ◌<◌, ◌≤◌, ◌+◌, ◌*◌, ◌/◌, ◌%◌, ℕ, ℤ, zero, suc, Bool, true, false, if◌then◌else◌, List, [], ◌∷◌, length, map, drop, All, Option, Some, None, slice_get, slice_index, refl, ap, ap₂, sym, subst, ◌∙◌, arith}
-use Rattle.std.specs.List.{flat_map, range_with_len}
+use Rattle.std.proofs.Common.{◌≡◌, ◌≢◌, ◌==◌, ◌<◌, ◌*◌, ◌/◌, ◌%◌, ℕ, zero, suc, false, if◌then◌else◌, List, [], ◌∷◌, length, map, drop, All, Some, slice_get, slice_index, refl, ap, ap₂, sym, subst, ◌∙◌, arith}
 use Rattle.std.proofs.Math.Nat.{mul-div_cancel, zero-mod}
 use Rattle.std.proofs.lemmas.Nat.{mul-mod_first}
 use Rattle.std.proofs.lemmas.Bool.Decides.{nat_tests}
@@ -10,13 +9,12 @@ use Rattle.nc_write.specs.declared.NcKind.{NcKind}
 use Rattle.nc_write.specs.declared.NcKind.TheVariants as kinds
 use Rattle.nc_write.specs.Kinds.{size_of}
 use Rattle.nc_write.specs.Extents.{product_of, has_records, piece_count}
-use Rattle.nc_format.specs.declared.NcDim.{NcDim}
 use Rattle.nc_format.specs.declared.NcVar.{NcVar}
 use Rattle.nc_format.specs.declared.NcFile.{NcFile}
 use Rattle.nc_format.specs.Grammar.{lens_of}
-use Rattle.nc_format.specs.Placing.{is_record_var, piece_len, parts_of, part_of, IsPlaced}
+use Rattle.nc_format.specs.Placing.{is_record_var, piece_len, part_of, IsPlaced}
 use Rattle.nc_format.specs.Header.{IsHeader}
-use Rattle.nc_format.specs.Numbers.{is_int, number_in, numbers_in, HasPieces, HasWholePieces, piece_of, gathered}
+use Rattle.nc_format.specs.Numbers.{number_in, numbers_in, HasPieces, HasWholePieces, gathered}
 use Rattle.nc_format.proofs.Pieces.{gathered_len, header_has_pieces, header_is_placed}
 use Rattle.exodus_mesh.specs.declared.vars.CoordVars.{CoordVars}
 use Rattle.exodus_mesh.specs.declared.vars.CoordVars.TheVariants.{Whole, Split}

@@ -1,5 +1,5 @@
 -- No face is wider than the width.
-use Rattle.std.proofs.Common.{◌≡◌, ◌≤◌, ℕ, ℤ, max, List, [], ◌∷◌, length, map, fold, All, arith}
+use Rattle.std.proofs.Common.{◌≤◌, ℕ, ℤ, max, List, [], ◌∷◌, length, map, fold, All, arith}
 use Rattle.std.specs.List.{AllByRecursion}
 use Rattle.std.proofs.lemmas.List.Elements.{All-from_recursion}
 use Rattle.exodus_mesh.specs.MeshDocument.{width_of}

@@ -4,3 +4,4 @@ pub mod MeshNames
 pub mod MeshValues
 pub mod MeshIn
 pub mod Found
+pub mod Places

@@ -1,6 +1,6 @@
 -- The variables of a mesh in a file, or the first fault of names, in the order in which names and shapes are tested.
 -- Source: Exodus II for the names; the integer types and the order of faults are this project's own.
-use Rattle.std.specs.Prelude.{ℕ, suc, zero, List, [], ◌∷◌, ◌++◌, map, Option, Some, None, Result, Ok, Err, ◌==◌, ◌&&◌, not, if◌then◌else◌, slice_get, slice_index}
+use Rattle.std.specs.Prelude.{ℕ, suc, zero, List, [], ◌∷◌, ◌++◌, map, Option, Some, None, Result, Ok, Err, ◌==◌, if◌then◌else◌, slice_get, slice_index}
 use Rattle.std.specs.List.{sum_by}
 use Rattle.nc_format.specs.declared.NcFile.{NcFile}
 use Rattle.nc_format.specs.declared.NcVar.{NcVar}

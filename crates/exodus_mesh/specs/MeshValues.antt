@@ -1,5 +1,5 @@
 -- The mesh that the numbers of a file say. Source: Exodus II; that repeated neighbours count once is this project's own.
-use Rattle.std.specs.Prelude.{◌≡◌, ℕ, suc, zero, ◌-◌, ◌*◌, ℤ, pos, List, [], ◌∷◌, ◌++◌, length, map, take, drop, Bool, nat_lt, ◌&&◌, if◌then◌else◌, slice_index_or}
+use Rattle.std.specs.Prelude.{ℕ, suc, zero, ◌-◌, ◌*◌, ℤ, pos, List, [], ◌∷◌, ◌++◌, length, map, take, drop, Bool, nat_lt, ◌&&◌, if◌then◌else◌, slice_index_or}
 use Rattle.std.specs.List.{range_with_len}
 use Rattle.std.specs.Ordering.{int_eq}
 use Rattle.vec_exact.specs.declared.RawMesh.{RawMesh}

@@ -3,14 +3,17 @@ ghost use Rattle.std.specs.Prelude.{◌≡◌, ◌<◌, ◌^◌, length, IfOk, I
 ghost use Rattle.std.specs.List.{sum_by};
 ghost use Rattle.nc_format.specs.Sound.{IsSound};
 ghost use Rattle.nc_format.specs.Grammar.{lens_of};
+ghost use Rattle.exodus_mesh.specs.Places.{ArePlaces};
 ghost use Rattle.exodus_mesh.specs.Names.{Answers, Refuses};
 ghost use Rattle.exodus_mesh.specs.MeshNames.{int_lens, one_len, two_lens, axis_len, coord_in, whole_nodes, split_nodes, nodes_in, block_count_in, block_in, blocks_in, mesh_vars_in};
 ghost use Rattle.exodus_mesh.specs.declared.vars.BlockVar.{BlockVar};
 
+use crate::places::{place_of, places};
 use crate::variables::var_at;
 use crate::{BlockVar, BlockVars, CoordVars, MeshVars, NameFault, NameId};
 use nc_format::{NcDim, NcFile, find_dim, find_var, is_int};
 use std::alloc::Global;
+use std::collections::BTreeMap;
 
 // The length of a dimension.
 fn len_of(dims: &[NcDim], id: u32) -> u32
@@ -148,13 +151,18 @@ fn block_count(file: &NcFile) -> Result<u32, NameFault>
 }
 
 #[tactic(auto, unfolding(crate::specs::MeshNames::block_in, crate::specs::Names::name_of))]
-fn find_block(alloc: Global, file: &NcFile, number: u32) -> Result<BlockVar, NameFault>
-    requires { IsSound file.now }
+fn find_block(
+    alloc: Global,
+    file: &NcFile,
+    places: &BTreeMap<&[u8], u32>,
+    number: u32,
+) -> Result<BlockVar, NameFault>
+    requires { ArePlaces file.now.vars places.now }
     ensures { Answers (λ block. block) result (block_in file.now number) }
 {
     let id = NameId::Connect(number);
     let name = format!(in alloc; "connect{number}")?;
-    let Some(var) = find_var(file, name.as_bytes()) else {
+    let Some(var) = place_of(&file.vars.items, places, name.as_bytes()) else {
         return Err(NameFault::Missing(id));
     };
     let ids = int_dims(file, id, var)?;
@@ -167,9 +175,10 @@ fn find_blocks(alloc: Global, file: &NcFile, count: u32) -> Result<Vec<BlockVar>
     requires { IsSound file.now }
     ensures { Answers (λ blocks. blocks.items) result (blocks_in file.now count) }
 {
+    let places = places(alloc, &file.vars.items)?;
     let mut blocks = Vec::new(alloc);
     for number in 0..count {
-        blocks.push(find_block(alloc, file, number + 1)?)?;
+        blocks.push(find_block(alloc, file, &places, number + 1)?)?;
     }
     Ok(blocks)
 }

@@ -8,6 +8,7 @@ mod finding;
 mod ids;
 mod laws;
 mod names;
+mod places;
 mod reading;
 #[cfg(test)]
 mod tests;

@@ -1,4 +1,4 @@
-use Rattle.std.proofs.Common.{◌≡◌, ◌≤◌, take, length, All, arith, rules, sym, subst}
+use Rattle.std.proofs.Common.{◌≡◌, ◌≤◌, take, length, All, arith, sym, subst}
 use Rattle.std.proofs.lemmas.Grind.{common_steps}
 use Rattle.exodus_mesh.specs.MeshDocument.{width_of}
 use Rattle.exodus_mesh.proofs.Widths.{all_within}

@@ -1,4 +1,4 @@
-use Rattle.std.proofs.Common.{◌≡◌, ◌∙◌, ◌≤◌, ap, sym, subst, length, arith, rules, Ok, All, List, ℤ}
+use Rattle.std.proofs.Common.{◌≡◌, ◌∙◌, ap, sym, subst, length, arith, rules, Ok, All, List, ℤ}
 use Rattle.nc_write.specs.File.{file_of}
 use Rattle.nc_write.specs.Form.{IsWellFormed}
 use Rattle.nc_write.specs.declared.NcDoc.{NcDoc}

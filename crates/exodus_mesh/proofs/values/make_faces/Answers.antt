@@ -1,6 +1,6 @@
-use Rattle.std.proofs.Common.{◌≡◌, ◌∙◌, ap, sym, length, slice_index_or}
+use Rattle.std.proofs.Common.{◌≡◌, ◌∙◌, ap, length, slice_index_or}
 use Rattle.exodus_mesh.specs.declared.vars.BlockVar.{BlockVar}
-use Rattle.exodus_mesh.proofs.Rows.{row_len_at, next_faces}
+use Rattle.exodus_mesh.proofs.Rows.{row_len_at}
 use Rattle.exodus_mesh.proofs.values.make_faces.Goals as goal
 
 pub put_block-requires : goal.put_block-requires

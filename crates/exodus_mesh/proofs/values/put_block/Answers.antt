@@ -1,4 +1,4 @@
-use Rattle.std.proofs.Common.{◌≡◌, ◌∙◌, ◌++◌, ◌∷◌, [], ◌-◌, ◌+◌, ap, sym, map, take, drop, length, arith, append_assoc}
+use Rattle.std.proofs.Common.{◌≡◌, ◌∙◌, ◌++◌, ◌∷◌, [], ◌-◌, ◌+◌, ap, sym, map, length, arith, append_assoc}
 use Rattle.exodus_mesh.specs.MeshValues.{face_of_row, rows_of}
 use Rattle.exodus_mesh.proofs.Rows.{next_row, row_left}
 use Rattle.exodus_mesh.proofs.values.put_block.Goals as goal
