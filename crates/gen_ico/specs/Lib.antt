@@ -1,0 +1,2 @@
+pub mod Icosahedron
+pub mod Icosahedral
