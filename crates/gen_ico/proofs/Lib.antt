@@ -3,4 +3,5 @@ mod Rounded
 mod Table
 mod Search
 mod Distinct
+mod Faults
 pub mod Counts

@@ -49,6 +49,6 @@ dual_face faces p =
 -- the dual of a raw mesh of triangles: a node for each face, a face for each node
 unfoldable pub dual_of : RawMesh → RawMesh
 dual_of raw = record {
-    nodes = map (dual_node raw.nodes) raw.faces;
-    faces = map (λ k. dual_face raw.faces (pos (k + 1))) (range_with_len 0 (length raw.nodes));
-  }
+  nodes = map (dual_node raw.nodes) raw.faces;
+  faces = map (λ k. dual_face raw.faces (pos (k + 1))) (range_with_len 0 (length raw.nodes));
+}

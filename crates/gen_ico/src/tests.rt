@@ -4,7 +4,7 @@ use std::test::Fail;
 
 #[test]
 fn the_icosahedron(rt: HostRuntime) -> Result<(), Fail> {
-    let Ok(raw) = raw_mesh(rt.alloc(), 1) else {
+    let Ok(raw) = icosahedral(rt.alloc(), 1) else {
         panic!(rt; "no memory");
     };
     assert_eq!(rt; (raw.nodes.items.len(), raw.faces.items.len()), (12, 20));
