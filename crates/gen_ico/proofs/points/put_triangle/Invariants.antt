@@ -1,0 +1,7 @@
+use Rattle.std.proofs.Common.{◌≡◌, ◌++◌}
+use Rattle.std.specs.List.{flat_map, range_with_len}
+use Rattle.gen_ico.specs.Icosahedral.{row_points}
+use Rattle.gen_ico.proofs.points.put_triangle.Given as goal
+
+abbrev pub invariant-loop-i : goal.invariant-loop-i
+invariant-loop-i l = l.out.items ≡ l.fn.out.items ++ flat_map (row_points l.n l.triangle) (range_with_len 0 l.i)

@@ -1,0 +1,3 @@
+pub mod Icosahedron
+pub mod Icosahedral
+pub mod Dual
