@@ -66,7 +66,7 @@ triangle_faces nodes n triangle = flat_map (row_faces nodes n triangle) (range_w
 unfoldable pub faces_of : List (List ℤ) → ℕ → List (List ℤ)
 faces_of nodes n = flat_map (triangle_faces nodes n) base_triangles
 
--- this is the icosahedral mesh of resolution n; there is one only
+-- this is the icosahedral mesh of resolution n
 pub record IsIcosahedral (n : ℕ) (raw : RawMesh) : Type 0 where
   pub nodes : AreNodes n raw.nodes
   pub faces : raw.faces ≡ faces_of raw.nodes n
