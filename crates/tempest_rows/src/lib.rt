@@ -8,6 +8,8 @@ mod generators;
 #[cfg(test)]
 mod machine;
 #[cfg(test)]
+mod rings;
+#[cfg(test)]
 mod runs;
 #[cfg(test)]
 mod words;
