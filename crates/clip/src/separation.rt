@@ -3,23 +3,13 @@ ghost use Rattle.std.specs.Prelude.{◌≡◌, ◌<◌, ℕ, pos, ◌≤ℤ◌, 
 ghost use Rattle.vec_exact.specs.Vector.{inner};
 ghost use Rattle.vec_exact.specs.Size.{Is37};
 ghost use Rattle.vec_exact.specs.Cycle.{vector_at};
-ghost use Rattle.vec_exact.specs.Face.{vector_of, IsAcceptedFace};
+ghost use Rattle.vec_exact.specs.Face.{IsAcceptedFace};
 ghost use Rattle.cone_laws.specs.Inside.{Meets};
 ghost use Rattle.mesh_check.specs.Mesh.{face_of, corners_of};
 ghost use Rattle.clip.specs.Planes.{IsFaceNumber};
 
 use mesh_check::{Mesh, edge_count, node, plane};
-use vec_exact::{Vec3, dot};
-
-fn vector(node: [i32; 3]) -> Vec3
-    ensures { result ≡ vector_of node }
-{
-    Vec3 {
-        x: i128::from(node[0]),
-        y: i128::from(node[1]),
-        z: i128::from(node[2]),
-    }
-}
+use vec_exact::{Vec3, dot, vector};
 
 // Whether no node of the face, which has `count` nodes, is on the positive side of the plane.
 fn is_beyond(plane: Vec3, mesh: &Mesh, face: u32, count: u32) -> bool

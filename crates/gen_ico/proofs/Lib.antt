@@ -3,5 +3,4 @@ mod Rounded
 mod Table
 mod Search
 mod Distinct
-mod Faults
 pub mod Counts

@@ -1,7 +1,6 @@
 //! The icosahedral mesh.
 #![tactic(auto)]
 
-mod checked;
 mod faces;
 mod icosahedron;
 mod nodes;
@@ -19,9 +18,8 @@ ghost use Rattle.mesh_check.specs.declared.faults.MeshFault.TheVariants.{NoMemor
 ghost use Rattle.mesh_check.specs.declared.faults.GenFault.TheVariants.{Mesh as FaultOfMesh};
 ghost use Rattle.gen_ico.specs.Icosahedral.{IsIcosahedral};
 
-use checked::checked;
 use faces::all_faces;
-use mesh_check::{GenFault, Mesh};
+use mesh_check::{GenFault, Mesh, check_generated};
 use nodes::all_nodes;
 use std::alloc::{AllocError, Global};
 use vec_exact::{Faces, Nodes, RawMesh};
@@ -57,5 +55,5 @@ pub fn make_icosahedral(alloc: Global, n: u32) -> Result<Mesh, GenFault>
     ensures outer { result ≡ Err (FaultOfMesh MeshNoMemory) → ⊥ }
 {
     let raw = icosahedral(alloc, n)?;
-    checked(alloc, raw)
+    check_generated(alloc, raw)
 }

@@ -1,4 +1,3 @@
 mod Ranges
 mod Rounded
 pub mod Counts
-mod Faults

@@ -17,7 +17,7 @@ ghost use Rattle.mesh_check.specs.declared.faults.GenFault.TheVariants.{Mesh as 
 ghost use Rattle.gen_rll.specs.LatitudeLongitude.{latitude_longitude};
 
 use faces::all_faces;
-use mesh_check::{GenFault, Mesh, check};
+use mesh_check::{GenFault, Mesh, check_generated};
 use nodes::all_nodes;
 use std::alloc::{AllocError, Global};
 pub use trigonometry::trig;
@@ -65,6 +65,5 @@ pub fn make(alloc: Global, lon: u32, lat: u32) -> Result<Mesh, GenFault>
     ensures refused { (fault : MeshFault) → IsFirstMeshFault (latitude_longitude lon lat) fault → (result ≡ Err (FaultOfMesh fault)) ⊎ (result ≡ Err NoMemory) }
 {
     let raw = raw_mesh(alloc, lon, lat)?;
-    let mesh = check(alloc, raw)?;
-    Ok(mesh)
+    check_generated(alloc, raw)
 }

@@ -9,8 +9,7 @@ ghost use Rattle.mesh_check.specs.Mesh.{IsGoodNode};
 ghost use Rattle.mesh_check.specs.FirstFault.{HasFaceSize, IsPositiveEdge, IsStrictlyConvex, IsFaceFault, IsFirstFaceFault};
 
 use crate::MeshFault;
-use crate::nodes::vector;
-use vec_exact::{Ints, Vec3, cross, dot};
+use vec_exact::{Ints, Vec3, cross, dot, vector};
 
 fn has_node_numbers(nodes: &[[i32; 3]], face: &[i32]) -> bool
     requires { length nodes.now ≤ 4194304 }

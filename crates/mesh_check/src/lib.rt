@@ -4,6 +4,7 @@
 mod counts;
 mod faces;
 mod faults;
+mod generated;
 mod mesh;
 mod nodes;
 #[cfg(test)]
@@ -11,4 +12,5 @@ mod tests;
 
 pub use counts::check_counts;
 pub use faults::{GenFault, MeshFault};
+pub use generated::check_generated;
 pub use mesh::{Mesh, check, edge_count, face_count, node, node_count, plane, raw};

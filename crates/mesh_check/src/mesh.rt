@@ -13,11 +13,11 @@ ghost use Rattle.mesh_check.specs.FirstFault.{IsFirstMeshFault};
 
 use crate::MeshFault;
 use crate::faces::{check_faces, next};
-use crate::nodes::{check_nodes, vector};
+use crate::nodes::check_nodes;
 use smallvec::SmallVec;
 use std::alloc::{AllocError, Global};
 use std::marker::Model;
-use vec_exact::{Faces, Ints, NoMemory, Nodes, RawMesh, Vec3, cross};
+use vec_exact::{Faces, Ints, NoMemory, Nodes, RawMesh, Vec3, cross, vector};
 
 /// A mesh whose faces are all accepted: each has 3 to 16 nodes and is strictly convex.
 ///
@@ -107,7 +107,7 @@ pub fn raw(alloc: Global, mesh: &Mesh) -> Result<RawMesh, NoMemory>
     let mut faces = Vec::with_capacity(alloc, mesh.faces.len())?;
     for face in &mesh.faces {
         let items = Vec::from_slice(alloc, face.as_slice())?;
-        faces.push(Ints { items }).map_err(AllocError::from)?;
+        faces.push(Ints { items })?;
     }
     Ok(RawMesh {
         nodes: Nodes { items: nodes },

@@ -6,17 +6,6 @@ ghost use Rattle.mesh_check.specs.Mesh.{IsGoodNode};
 ghost use Rattle.mesh_check.specs.FirstFault.{IsNodeFault, IsFirstNodeFault};
 
 use crate::MeshFault;
-use vec_exact::Vec3;
-
-pub fn vector(node: [i32; 3]) -> Vec3
-    ensures { result ≡ vector_of node }
-{
-    Vec3 {
-        x: i128::from(node[0]),
-        y: i128::from(node[1]),
-        z: i128::from(node[2]),
-    }
-}
 
 fn check_node(number: u32, node: [i32; 3]) -> Result<(), MeshFault>
     ensures good { OnOk result (IsGoodNode node) }

@@ -14,9 +14,9 @@ ghost use Rattle.std.specs.Prelude.{◌≡◌};
 pub use lists::{Faces, Ints, Longs, Nodes};
 pub use panels::Panel;
 pub use rounding::{isqrt, round_div};
-use std::alloc::AllocError;
+use std::alloc::{AllocError, AllocFailed};
 pub use steps::Steps;
-pub use vectors::{Sign, cross, det, dot, side};
+pub use vectors::{Sign, cross, det, dot, side, vector};
 
 /// Memory ran out.
 #[derive(Clone, Copy, Debug, PartialEq, Eq)]
@@ -26,6 +26,14 @@ impl From<AllocError> for NoMemory {
     ghost from_gives = { λ _ e. e ≡ e };
 
     fn from(_: AllocError) -> Self {
+        NoMemory
+    }
+}
+
+impl<T: Drop> From<AllocFailed<T>> for NoMemory {
+    ghost from_gives = { λ _ e. e ≡ e };
+
+    fn from(_: AllocFailed<T>) -> Self {
         NoMemory
     }
 }

@@ -3,6 +3,7 @@ ghost use Rattle.std.specs.Prelude.{◌≡◌, ◌≤◌, ◌<◌, ◌*◌, ◌^
 ghost use Rattle.vec_exact.specs.Vector.{inner, cross, det};
 ghost use Rattle.vec_exact.specs.Size.{Within, Is18, Is37, Is75, HasInner, HasCross};
 ghost use Rattle.vec_exact.specs.Side.{side_of};
+ghost use Rattle.vec_exact.specs.Face.{vector_of};
 
 use crate::Vec3;
 
@@ -15,6 +16,17 @@ pub enum Sign {
     On,
     /// On the positive side.
     Pos,
+}
+
+/// Three whole numbers, as a node has them, as a triple.
+pub fn vector(numbers: [i32; 3]) -> Vec3
+    ensures { result ≡ vector_of numbers }
+{
+    Vec3 {
+        x: i128::from(numbers[0]),
+        y: i128::from(numbers[1]),
+        z: i128::from(numbers[2]),
+    }
 }
 
 // The product, which fits.

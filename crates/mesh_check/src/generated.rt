@@ -7,15 +7,20 @@ ghost use Rattle.mesh_check.specs.declared.faults.MeshFault.{MeshFault};
 ghost use Rattle.mesh_check.specs.declared.faults.MeshFault.TheVariants.{NoMemory as MeshNoMemory};
 ghost use Rattle.mesh_check.specs.declared.faults.GenFault.TheVariants.{Mesh as FaultOfMesh, NoMemory};
 
-use mesh_check::{GenFault, Mesh, check};
+use crate::{GenFault, Mesh, check};
 use std::alloc::Global;
 use vec_exact::RawMesh;
 
-// The mesh of the same nodes and faces, or exactly its first fault.
-pub fn checked(alloc: Global, raw: RawMesh) -> Result<Mesh, GenFault>
+/// The mesh of the same nodes and faces as `raw`, which a generator made: at least one face, and
+/// counts that pass `check_counts`.
+///
+/// `Mesh(f)` comes exactly where `f` is the first fault of `raw`, and is never
+/// `Mesh(MeshFault::NoMemory)`. `NoMemory` may come in place of any answer. At a fault `raw` is
+/// dropped.
+pub fn check_generated(alloc: Global, raw: RawMesh) -> Result<Mesh, GenFault>
     requires some_face { 1 ≤ length raw.faces }
     requires counts { AreAllowedCounts (length raw.nodes) (length raw.faces) }
-    ensures mesh { IfOk result (λ mesh. mesh ≡ raw) }
+    ensures same { IfOk result (λ mesh. mesh ≡ raw) }
     ensures accepted { OnOk result (IsAcceptedMesh raw) }
     ensures fault { (fault : MeshFault) → result ≡ Err (FaultOfMesh fault) → IsFirstMeshFault raw fault }
     ensures outer { result ≡ Err (FaultOfMesh MeshNoMemory) → ⊥ }

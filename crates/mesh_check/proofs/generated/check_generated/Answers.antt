@@ -1,8 +1,8 @@
 use Rattle.std.proofs.Common.{◌≡◌, Err, rules}
 use Rattle.mesh_check.specs.declared.faults.MeshFault.TheVariants.{NoMemory}
 use Rattle.mesh_check.specs.FirstFault.{gen_fault_of}
-use Rattle.gen_ico.proofs.Faults.{names_first, no_error, refuses}
-use Rattle.gen_ico.proofs.checked.checked.Goals as goal
+use Rattle.mesh_check.proofs.HandedOn.{names_first, no_error, refuses}
+use Rattle.mesh_check.proofs.generated.check_generated.Goals as goal
 
 pub returns-in_err-mesh-clause-fault : goal.returns-in_err-mesh-clause-fault
 returns-in_err-mesh-clause-fault c = λ fault e.
