@@ -1,0 +1,14 @@
+//! The overlap of two meshes: all pairs of faces that meet, each with its ring and its corners.
+#![tactic(auto)]
+
+mod blocks;
+mod faults;
+mod gates;
+mod laws;
+mod run;
+
+pub use blocks::Block;
+pub use faults::RunFault;
+pub use gates::{Gate, OpenGate};
+pub use laws::{law_one_list_of_pairs, law_one_overlap};
+pub use run::overlap;
