@@ -38,8 +38,8 @@ module _ {X : Type 0} where
   member_there x y xs c = (suc c.0, omega (arith, c.1), c.2)
 
   pub member_cases : (x y : X) (xs : List X) → Contains (x ∷ xs) y → (x ≡ y) ⊎ Contains xs y
-  member_cases x y xs (zero, (l, e)) = inl e
-  member_cases x y xs (suc k, (l, e)) = inr (k, omega arith, e)
+  member_cases x y xs (zero, l, e) = inl e
+  member_cases x y xs (suc k, l, e) = inr (k, omega arith, e)
 
 module _ {X : Type 0} (R : X → X → Type 0) (one_way : (x y : X) → R x y → R y x → ⊥) where
   rest : (x : X) (xs ys : List X) → AllPairs R (x ∷ xs) → ((z : X) → Contains (x ∷ xs) z → Contains (x ∷ ys) z) → (z : X) → Contains xs z → Contains ys z

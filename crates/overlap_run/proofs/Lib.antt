@@ -1,3 +1,8 @@
-pub mod Ascending
-pub mod Exactly
+mod Ascending
 mod Unique
+mod Exactly
+mod BlockSteps
+mod FaceSteps
+mod RunSteps
+mod RingCorners
+mod ClipCounts

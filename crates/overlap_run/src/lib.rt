@@ -2,10 +2,14 @@
 #![tactic(auto)]
 
 mod blocks;
+mod faces;
 mod faults;
 mod gates;
 mod laws;
+mod rings;
 mod run;
+#[cfg(test)]
+mod tests;
 
 pub use blocks::Block;
 pub use faults::RunFault;
