@@ -84,17 +84,17 @@ targets_are_faces a b i targets e =
     let n = length b.faces in
     subst (All (IsFaceNumber b)) (sym e)
     (All-from_get_or (IsFaceNumber b) (range_with_len 1 n) 0 (λ k l.
-      let here = get_or-range_with_len 1 n k 0 (omega (arith, l, length-range_with_len 1 n)) in
-      (omega (arith, here), omega (arith, here, l, length-range_with_len 1 n))))
+    let here = get_or-range_with_len 1 n k 0 (omega (arith, l, length-range_with_len 1 n)) in
+    (omega (arith, here), omega (arith, here, l, length-range_with_len 1 n))))
 
 pub targets_ascend : (a b : RawMesh) (i : ℕ) (targets : List ℕ) → targets ≡ targets_of a b i → IsStrictlyIncreasing targets
 targets_ascend a b i targets e =
     let n = length b.faces in
     subst IsStrictlyIncreasing (sym e) (λ k l.
-      let size = length-range_with_len 1 n in
-      let here = get_or-range_with_len 1 n k 0 (omega (arith, l, size)) in
-      let following = get_or-range_with_len 1 n (k + 1) 0 (omega (arith, l, size)) in
-      omega (arith, here, following))
+    let size = length-range_with_len 1 n in
+    let here = get_or-range_with_len 1 n k 0 (omega (arith, l, size)) in
+    let following = get_or-range_with_len 1 n (k + 1) 0 (omega (arith, l, size)) in
+    omega (arith, here, following))
 
 pub targets_are_all : (a b : RawMesh) (i : ℕ) (targets : List ℕ) → targets ≡ targets_of a b i → (j : ℕ) → IsFaceNumber b j → Contains targets j
 targets_are_all a b i targets e j h =

@@ -41,7 +41,7 @@ pub exactly_join : (P Q : FacePair → Type 0) → AllBefore P Q → (ps qs : Li
 exactly_join P Q before ps qs x y =
     let either : FacePair → Type 0 = λ p. P p ⊎ Q p in
     let all_before : All (λ p. All (IsEarlier p) qs) ps =
-        All-weaker P (λ p. All (IsEarlier p) qs) (λ p h. All-weaker Q (IsEarlier p) (λ q k. before p q h k) qs y.each) ps x.each in
+    All-weaker P (λ p. All (IsEarlier p) qs) (λ p h. All-weaker Q (IsEarlier p) (λ q k. before p q h k) qs y.each) ps x.each in
     record {
       ascending = pairs_append IsEarlier ps qs x.ascending y.ascending all_before;
       each = All-append either ps qs (All-weaker P either (λ p h. inl h) ps x.each) (All-weaker Q either (λ p h. inr h) qs y.each);

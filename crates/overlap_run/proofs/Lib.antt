@@ -4,5 +4,6 @@ mod Exactly
 mod BlockSteps
 mod FaceSteps
 mod RunSteps
+mod WholeSteps
 mod RingCorners
 mod ClipCounts

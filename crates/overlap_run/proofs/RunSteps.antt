@@ -51,7 +51,7 @@ module _ (a b : RawMesh) where
         listed = λ few.
             let pieces = pieces_join a b P Q (apart n m) (all_pieces old.blocks.items) block.pieces (h.listed (omega (arith, few, e))) (k.listed (omega (arith, few, e))) in
             let all : all_pieces new.blocks.items ≡ all_pieces old.blocks.items ++ block.pieces =
-                ap all_pieces (f few) ∙ sym (flat_map_more (λ (piece : List Piece). piece) [] old.blocks.items block.pieces) in
+            ap all_pieces (f few) ∙ sym (flat_map_more (λ (piece : List Piece). piece) [] old.blocks.items block.pieces) in
             subst (ArePiecesOf a b R) (sym all) (pieces_same a b (λ p. P p ⊎ Q p) R (together n m l) (divided n m) (all_pieces old.blocks.items ++ block.pieces) pieces);
       }
 

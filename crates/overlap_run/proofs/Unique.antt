@@ -38,7 +38,7 @@ same_piece a b p q e x y =
     let ps = planes_of_pair (corners_of a q.a) (corners_of b q.b) in
     let planes : planes_of_pair (corners_of a p.a) (corners_of b p.b) ≡ ps = ap₂ (λ (i j : ℕ). planes_of_pair (corners_of a i) (corners_of b j)) source target in
     let ring : IsRing (corners_of a q.a) (corners_of b q.b) p.ring.items =
-        subst (λ (i : ℕ). IsRing (corners_of a i) (corners_of b q.b) p.ring.items) source (subst (λ (j : ℕ). IsRing (corners_of a p.a) (corners_of b j) p.ring.items) target x.ring) in
+    subst (λ (i : ℕ). IsRing (corners_of a i) (corners_of b q.b) p.ring.items) source (subst (λ (j : ℕ). IsRing (corners_of a p.a) (corners_of b j) p.ring.items) target x.ring) in
     let same = unique ps (length ps) p.ring.items q.ring.items ring y.ring in
     piece_eq p q source target same
     (x.corners ∙ ap (λ (planes : List _). grid_corners_of (length p.ring.items) (listed planes p.ring.items)) planes

@@ -48,6 +48,7 @@ pub fn clip_block<L: Ledger>(
     requires to { to ≤ length a.now.faces }
     ensures block { IfOk result (IsBlockOf a.now b.now (DoMeetWithin a.now b.now from to)) }
     ensures few { IfOk result (λ block. block.count ≤ clip_count a.now b.now from to) }
+    ensures target_limit { length b.now.faces ≤ 1048576 }
     ensures ticks { OnOk result (steps.new ≡ steps.old + clip_count a.now b.now from to) }
     ensures most { steps.new ≤ steps.old + clip_count a.now b.now from to }
 {

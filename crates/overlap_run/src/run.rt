@@ -106,6 +106,9 @@ pub fn overlap<G: Gate + Sync, L: Ledger>(
     ensures past { (n : ℕ) → IsPairCount a.now b.now n → 8388608 < n → IsErr result }
     // and where no more do, no number comes
     ensures within { (n m : ℕ) → IsPairCount a.now b.now n → n ≤ 8388608 → result ≢ Err (RunFault.TooManyPieces m) }
+    // one worker takes a step for each pair that is clipped
+    ensures ticks { workers ≡ 1 → result ≢ Err RunFault.NoMemory → steps.new ≡ steps.old + clip_count a.now b.now 1 (length a.now.faces) }
+    ensures most { workers ≡ 1 → steps.new ≤ steps.old + clip_count a.now b.now 1 (length a.now.faces) }
 {
     let run = ascending(alloc, a, b, gate, steps)?;
     if run.count > GREATEST_COUNT {
