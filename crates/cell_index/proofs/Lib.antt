@@ -7,3 +7,4 @@ pub mod Roots
 pub mod Fair
 pub mod Sharing
 pub mod Agree
+pub mod Fillings

@@ -1,12 +1,8 @@
-// The faces of each cell, kept in one list.
-ghost use Rattle.std.specs.Prelude.{◌≡◌, ◌+◌, ◌*◌, ◌<◌, ◌≤◌, pos, ◌≤ℤ◌, Some, length, unsigned_abs, IfOk, OnOk, if◌then◌else◌, ◌++◌, ◌∷◌, []};
-ghost use Rattle.cell_index.specs.declared.CellBox.{CellBox};
-ghost use Rattle.cell_index.specs.IndexOf.{at_panel, panels};
-ghost use Rattle.cell_index.specs.Kept.{IsPanelBox, AreBoxes, side, cell_count, shifted, Fits, Covers, place_of, AreRanges, IsFilling, IsListed, Grows, ListsBox, ListsFace};
+// The cells of a box, and how an index keeps the faces of each cell.
+ghost use Rattle.std.specs.Prelude.{◌≡◌, ◌*◌, ◌<◌, ◌≤◌, pos, ◌≤ℤ◌};
+ghost use Rattle.cell_index.specs.Kept.{IsPanelBox, side, shifted, Fits, place_of};
 
-use crate::{Boxes, CellBox};
-use std::alloc::Global;
-use vec_exact::NoMemory;
+use crate::CellBox;
 
 /// A range of cells, counted from the corner of the panel; both ends are in it.
 #[derive(Clone, Copy)]
@@ -17,12 +13,11 @@ pub struct CellRange {
     pub y1: u32,
 }
 
-/// The ranges of the cells while they are filled: that of cell c goes from `starts[c]` to
-/// `starts[c + 1]` in `faces`, and is filled up to `ends[c]`.
+/// The faces of each cell: those of cell c stand from `starts[c]` to `starts[c + 1]` in `faces`.
+/// A face whose box has many cells stands in `large` instead, once for each such box.
 #[derive(Drop)]
-pub struct Filling {
+pub struct Cells {
     pub starts: Vec<u32>,
-    pub ends: Vec<u32>,
     pub faces: Vec<u32>,
     pub large: Vec<u32>,
 }

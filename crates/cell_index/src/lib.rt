@@ -6,6 +6,8 @@
 
 mod coordinates;
 mod face_boxes;
+mod counting;
+mod filling;
 mod index;
 mod kept;
 mod laws;
