@@ -8,3 +8,5 @@ pub mod Fair
 pub mod Sharing
 pub mod Agree
 pub mod Fillings
+pub mod Searches
+pub mod FirstBoxes

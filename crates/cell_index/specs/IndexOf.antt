@@ -23,6 +23,11 @@ pub record IsIndexOf (index : IndexView) (mesh : RawMesh) : Type 0 where
   pub count : length index.boxes ≡ length mesh.faces
   pub boxes_are : (j : ℕ) → 1 ≤ j → j ≤ length mesh.faces → panels index.boxes j ≡ boxes (corners_of mesh j) index.fineness
 
+-- the boxes of the first t faces of the mesh
+pub record AreFirstBoxes (mesh : RawMesh) (k : ℤ) (t : ℕ) (bs : List Boxes) : Type 0 where
+  pub count : length bs ≡ t
+  pub boxes_are : (j : ℕ) → 1 ≤ j → j ≤ t → panels bs j ≡ boxes (corners_of mesh j) k
+
 -- the box at place p of a list of boxes
 abbrev pub at_panel : List (Option CellBox) → ℕ → Option CellBox
 at_panel own p = slice_index_or own p None

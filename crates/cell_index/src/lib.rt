@@ -11,9 +11,11 @@ mod filling;
 mod index;
 mod kept;
 mod laws;
+mod search;
 mod shared_cells;
 
 pub use face_boxes::{boxes_of, fineness};
+pub use index::{Index, build, candidates, find_candidates};
 pub use laws::{law_meets_is_candidate, law_sharers_are_candidates};
 
 /// A box of cells of a panel: those whose first number is from `u0` to `u1` and whose second is
