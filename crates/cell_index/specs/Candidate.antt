@@ -1,5 +1,6 @@
 -- Candidates: two faces whose boxes share a cell on some panel. Source: our own.
-use Rattle.std.specs.Prelude.{ℕ, ◌-◌, ◌<◌, ◌≤◌, ℤ, pos, ◌≤ℤ◌, ◌<ℤ◌, List, slice_index_or, length, None, Some, Option}
+use Rattle.std.specs.Prelude.{ℕ, ◌≤◌, ◌↔◌, ℤ, pos, ◌≤ℤ◌, ◌<ℤ◌, List, length, None, Some, Option}
+use Rattle.std.specs.List.{Contains}
 use Rattle.vec_exact.specs.declared.Vec3.{Vec3}
 use Rattle.vec_exact.specs.declared.RawMesh.{RawMesh}
 use Rattle.vec_exact.specs.declared.panels.Panel.{Panel}
@@ -36,3 +37,11 @@ pub record AreCandidates (a : RawMesh) (i : ℕ) (b : RawMesh) (j : ℕ) : Type 
 -- two faces that meet are candidates, at any fineness
 abbrev pub LawMeetsIsCandidate : Type 0
 LawMeetsIsCandidate = (f g : List Vec3) (k : ℤ) → IsAcceptedFace f → IsAcceptedFace g → pos 0 <ℤ k → Meets f g → IsCandidate f g k
+
+-- the list has exactly the candidates of face i of the mesh a among the faces of the mesh b
+abbrev pub HasCandidates : RawMesh → ℕ → RawMesh → List ℕ → Type 0
+HasCandidates a i b found = (j : ℕ) → Contains found j ↔ AreCandidates a i b j
+
+-- the list has every face of the mesh b that meets face i of the mesh a
+abbrev pub HasMeeting : RawMesh → ℕ → RawMesh → List ℕ → Type 0
+HasMeeting a i b found = (j : ℕ) → 1 ≤ j → j ≤ length b.faces → Meets (corners_of a i) (corners_of b j) → Contains found j

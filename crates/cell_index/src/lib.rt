@@ -13,6 +13,8 @@ mod kept;
 mod laws;
 mod search;
 mod shared_cells;
+#[cfg(test)]
+mod tests;
 
 pub use face_boxes::{boxes_of, fineness};
 pub use index::{Index, build, candidates, find_candidates};
