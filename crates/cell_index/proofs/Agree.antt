@@ -1,5 +1,5 @@
 -- In the index of a mesh, who shares a cell is a candidate.
-use Rattle.std.proofs.Common.{◌≡◌, ℕ, ◌-◌, ◌<◌, ◌≤◌, ◌↔◌, ℤ, pos, ◌<ℤ◌, arith, ap, sym, ◌∙◌, subst, List, [], length, max, min, Option}
+use Rattle.std.proofs.Common.{◌≡◌, ℕ, ◌-◌, ◌≤◌, ◌↔◌, ℤ, pos, ◌<ℤ◌, arith, ap, sym, ◌∙◌, subst, List, [], length, Option}
 use Rattle.std.proofs.lemmas.Int.{ints}
 use Rattle.std.specs.List.{Contains}
 use Rattle.std.proofs.lemmas.List.Elements.{All-get_or}
@@ -7,12 +7,10 @@ use Rattle.vec_exact.specs.Face.{IsAccepted}
 use Rattle.vec_exact.specs.Face.{IsAcceptedFace}
 use Rattle.mesh_check.specs.Mesh.{IsAcceptedMesh}
 use Rattle.cell_index.proofs.BoxCells.{law_holds}
-use Rattle.vec_exact.specs.declared.Vec3.{Vec3}
 use Rattle.vec_exact.specs.declared.RawMesh.{RawMesh}
-use Rattle.vec_exact.specs.declared.panels.Panel.{Panel}
 use Rattle.mesh_check.specs.Mesh.{corners_of}
 use Rattle.cell_index.specs.declared.CellBox.{CellBox}
-use Rattle.cell_index.specs.Box.{box_of, boxes}
+use Rattle.cell_index.specs.Box.{boxes}
 use Rattle.cell_index.specs.Candidate.{SharesCell, AreCandidates, HasCandidates, HasMeeting}
 use Rattle.cell_index.specs.Fineness.{fineness_of}
 use Rattle.cell_index.specs.IndexOf.{IndexView, IsIndexOf, IsSharer, panels, at_panel, LawSharersAreCandidates}
@@ -45,7 +43,7 @@ sharers index b a i j h = (to, back)
           share = (
             panel_of p,
             along _ _ _ _ (own p ∙ panel_at (corners_of a i) k p lt)
-            (ap (λ (z : List (Option CellBox)). at_panel z p) (target_boxes index b j h s.first hi) ∙ panel_at (corners_of b j) k p lt) s.shares.2,
+                (ap (λ (z : List (Option CellBox)). at_panel z p) (target_boxes index b j h s.first hi) ∙ panel_at (corners_of b j) k p lt) s.shares.2,
           );
         }
 
@@ -59,7 +57,7 @@ sharers index b a i j h = (to, back)
             p,
             place_below c.share.0,
             along _ _ _ _ (sym (own p ∙ box_at_place (corners_of a i) k c.share.0))
-            (sym (ap (λ (z : List (Option CellBox)). at_panel z p) (target_boxes index b j h c.first c.last) ∙ box_at_place (corners_of b j) k c.share.0)) c.share.1,
+                (sym (ap (λ (z : List (Option CellBox)). at_panel z p) (target_boxes index b j h c.first c.last) ∙ box_at_place (corners_of b j) k c.share.0)) c.share.1,
           );
         }
 

@@ -1,5 +1,5 @@
 -- What a search keeps, and that it misses nothing.
-use Rattle.std.proofs.Common.{◌≡◌, ℕ, ◌+◌, ◌-◌, ◌*◌, ◌<◌, ◌≤◌, ℤ, pos, neg_ℤ, ◌+ℤ◌, ◌≤ℤ◌, unsigned_abs, max, arith, ap, refl, sym, ◌∙◌, ◌⊎◌, inl, inr, subst, ◌↔◌, IsTrue, Bool, true, false, eqb, List, [], ◌∷◌, ◌++◌, length, get_or, Option, Some, None, if◌then◌else◌, IsPermutation, IfOk, OnOk, Ok, Err}
+use Rattle.std.proofs.Common.{◌≡◌, ℕ, ◌+◌, ◌<◌, ◌≤◌, ℤ, pos, neg_ℤ, ◌+ℤ◌, ◌≤ℤ◌, unsigned_abs, max, arith, ap, refl, sym, ◌∙◌, ◌⊎◌, inl, inr, subst, ◌↔◌, IsTrue, Bool, true, false, eqb, List, [], ◌∷◌, ◌++◌, length, get_or, Option, Some, None, if◌then◌else◌, IsPermutation, IfOk, Ok, Err}
 use Rattle.std.proofs.lemmas.Int.{ints}
 use Rattle.std.specs.declared.result.Result.{Result}
 use Rattle.std.specs.List.{Contains, dedup}
@@ -15,7 +15,7 @@ use Rattle.cell_index.specs.declared.kept.CellRange.{CellRange}
 use Rattle.cell_index.specs.declared.kept.Cells.{Cells}
 use Rattle.cell_index.specs.Candidate.{Overlap, SharesCell}
 use Rattle.cell_index.specs.IndexOf.{at_panel, panels, IsSharer}
-use Rattle.cell_index.specs.Kept.{IsPanelBox, AreBoxes, AreAllBoxes, side, cell_count, shifted, Covers, place_of, AreRanges, InCell, IsFilling, IsFilledIn, ListsAll, IsComplete, Takes, InPart, InRow, InRange, InBox, InPanels}
+use Rattle.cell_index.specs.Kept.{IsPanelBox, AreBoxes, AreAllBoxes, side, cell_count, shifted, Covers, place_of, AreRanges, InCell, IsFilling, ListsAll, IsComplete, Takes, InPart, InRow, InRange, InBox, InPanels}
 use Rattle.cell_index.proofs.Fillings.{rises}
 
 pub takes_none : (own : List (Option CellBox)) (bs : List Boxes) (a : List ℕ) (Q : ℕ → Type 0) → ((j : ℕ) → ¬ Q j) → Takes own bs a a Q

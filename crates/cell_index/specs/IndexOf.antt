@@ -1,6 +1,5 @@
 -- An index as contracts see it: a fineness and the boxes of all target faces. Source: our own.
 use Rattle.std.specs.Prelude.{◌≡◌, ◌↔◌, ℕ, ◌-◌, ◌<◌, ◌≤◌, ℤ, None, List, [], length, slice_index_or, Option}
-use Rattle.vec_exact.specs.declared.Vec3.{Vec3}
 use Rattle.vec_exact.specs.declared.RawMesh.{RawMesh}
 use Rattle.mesh_check.specs.Mesh.{corners_of}
 use Rattle.cell_index.specs.declared.CellBox.{CellBox}

@@ -5,8 +5,8 @@
 #![tactic(auto)]
 
 mod coordinates;
-mod face_boxes;
 mod counting;
+mod face_boxes;
 mod filling;
 mod index;
 mod kept;

@@ -16,6 +16,7 @@ const CUBE_NODES: [[i32; 3]; 8] = [
     [1, 1, -1],
     [1, 1, 1],
 ];
+
 const CUBE_FACES: [i32; 24] = [
     5, 7, 8, 6, 7, 3, 4, 8, 3, 1, 2, 4, 1, 5, 6, 2, 6, 8, 4, 2, 1, 3, 7, 5,
 ];
@@ -70,7 +71,13 @@ fn candidates_over_the_cube(rt: HostRuntime) {
         };
         assert_eq!(rt; own.as_slice(), [face + 1].as_slice());
     }
-    let octant = mesh(&rt, rt.alloc(), &[[1, 0, 0], [0, 1, 0], [0, 0, 1]], 3, &[1, 2, 3]);
+    let octant = mesh(
+        &rt,
+        rt.alloc(),
+        &[[1, 0, 0], [0, 1, 0], [0, 0, 1]],
+        3,
+        &[1, 2, 3],
+    );
     for face in 0..face_count(&octant) {
         let Ok(met) = candidates(rt.alloc(), &index, &octant, face + 1) else {
             panic!(rt; "no memory");

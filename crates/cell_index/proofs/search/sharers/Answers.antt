@@ -1,4 +1,4 @@
-use Rattle.std.proofs.Common.{◌≡◌, ◌≤◌, arith, rules, sym, subst, eqb, ℕ, List, length}
+use Rattle.std.proofs.Common.{◌≤◌, rules, sym, subst, eqb, ℕ, List, length}
 use Rattle.std.specs.List.Sorted.{IsStrictlyIncreasing}
 use Rattle.std.proofs.lemmas.Int.{to_z-of_z}
 use Rattle.std.proofs.lemmas.List.Filters.{dedup_is}
