@@ -18,7 +18,7 @@ use Rattle.cone_laws.proofs.LinearForms.{nonneg_in_closure, positive_inside}
 use Rattle.vec_exact.proofs.Cycles.{same_or_not}
 use Rattle.cell_index.specs.declared.CellBox.{CellBox}
 use Rattle.cell_index.specs.Box.{seen_from, least, greatest, seen, beyond_u_end, beyond_u_start, beyond_v_end, beyond_v_start, is_beyond, is_in_front, floor_of, range_of, is_empty, whole_panel, box_of}
-use Rattle.cell_index.specs.Candidate.{Overlap, SharesCell, LawMeetsIsCandidate}
+use Rattle.cell_index.specs.Candidate.{RangesMeet, SharesCell, LawMeetsIsCandidate}
 use Rattle.cell_index.proofs.Floors.{floor_is, floor_at_least, floor_below, at_least_floor, below_floor}
 use Rattle.cell_index.proofs.PanelForms.{inner_form, form_self, IsOn, panel_for}
 use Rattle.cell_index.proofs.Places.{true_or_false, or_cases, every_at, least_at, greatest_at, le_true, lt_true, lt_false}
@@ -293,7 +293,7 @@ has_box vs p k d i o h =
 
 share : (a b : Option CellBox) (x y : CellBox) (u v : ℤ) → a ≡ Some x → b ≡ Some y → Holds x u v → Holds y u v → SharesCell a b
 share a b x y u v e f p q =
-    let o : Overlap x y = record {
+    let o : RangesMeet x y = record {
       u_left = omega (arith, ints, p.u_low, q.u_high);
       u_right = omega (arith, ints, q.u_low, p.u_high);
       v_left = omega (arith, ints, p.v_low, q.v_high);

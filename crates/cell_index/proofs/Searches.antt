@@ -13,7 +13,7 @@ use Rattle.cell_index.specs.declared.Boxes.{Boxes}
 use Rattle.cell_index.specs.declared.filling.Filling.{Filling}
 use Rattle.cell_index.specs.declared.kept.CellRange.{CellRange}
 use Rattle.cell_index.specs.declared.kept.Cells.{Cells}
-use Rattle.cell_index.specs.Candidate.{Overlap, SharesCell}
+use Rattle.cell_index.specs.Candidate.{RangesMeet, SharesCell}
 use Rattle.cell_index.specs.IndexOf.{at_panel, panels, IsSharer}
 use Rattle.cell_index.specs.Kept.{IsPanelBox, AreBoxes, AreAllBoxes, side, cell_count, shifted, Covers, place_of, AreRanges, InCell, IsFilling, ListsAll, IsComplete, Takes, InPart, InRow, InRange, InBox, InPanels}
 use Rattle.cell_index.proofs.Fillings.{rises}
@@ -128,13 +128,13 @@ panels_more own bs a b d cells k n h g = takes_on own bs a b d (InPanels cells k
     ]
 
 -- ---- nothing is missed
-shares_some : (a b : Option CellBox) → SharesCell a b → (x : CellBox) × (y : CellBox) × (a ≡ Some x) × (b ≡ Some y) × Overlap x y
+shares_some : (a b : Option CellBox) → SharesCell a b → (x : CellBox) × (y : CellBox) × (a ≡ Some x) × (b ≡ Some y) × RangesMeet x y
 shares_some (Some x) (Some y) o = (x, y, refl, refl, o)
 shares_some (Some x) None o = absurd o
 shares_some None b o = absurd o
 
 -- two boxes that share a cell
-common_cell : (k : ℤ) (x y : CellBox) → IsPanelBox k x → IsPanelBox k y → Overlap x y → (i : ℕ) × (j : ℕ) × Covers (shifted k x) i j × Covers (shifted k y) i j
+common_cell : (k : ℤ) (x y : CellBox) → IsPanelBox k x → IsPanelBox k y → RangesMeet x y → (i : ℕ) × (j : ℕ) × Covers (shifted k x) i j × Covers (shifted k y) i j
 common_cell k x y p q o = (
   max (shifted k x).x0 (shifted k y).x0,
   max (shifted k x).y0 (shifted k y).y0,

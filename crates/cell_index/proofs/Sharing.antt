@@ -7,12 +7,12 @@ use Rattle.std.proofs.lemmas.List.Elements.{Contains-append_left, Contains-push,
 use Rattle.vec_exact.proofs.Cycles.{same_or_not}
 use Rattle.cell_index.specs.declared.CellBox.{CellBox}
 use Rattle.cell_index.specs.declared.Boxes.{Boxes}
-use Rattle.cell_index.specs.Candidate.{Overlap}
+use Rattle.cell_index.specs.Candidate.{RangesMeet}
 use Rattle.cell_index.specs.IndexOf.{Share, panels, IsSharer}
 use Rattle.cell_index.proofs.Places.{and_left, and_right, and_both, le_true, le_from}
 
-pub overlap_decides : (x y : CellBox) → IsTrue (int_le x.u0 y.u1 && int_le y.u0 x.u1 && int_le x.v0 y.v1 && int_le y.v0 x.v1) ↔ Overlap x y
-overlap_decides x y = (
+pub ranges_decide : (x y : CellBox) → IsTrue (int_le x.u0 y.u1 && int_le y.u0 x.u1 && int_le x.v0 y.v1 && int_le y.v0 x.v1) ↔ RangesMeet x y
+ranges_decide x y = (
   λ h.
       let a = and_left (int_le x.u0 y.u1 && int_le y.u0 x.u1 && int_le x.v0 y.v1) (int_le y.v0 x.v1) h in
       let b = and_left (int_le x.u0 y.u1 && int_le y.u0 x.u1) (int_le x.v0 y.v1) a in

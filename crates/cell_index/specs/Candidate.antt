@@ -12,7 +12,7 @@ use Rattle.cell_index.specs.Box.{box_of}
 use Rattle.cell_index.specs.Fineness.{fineness_of}
 
 -- the ranges of two boxes meet in both coordinates
-pub record Overlap (a b : CellBox) : Type 0 where
+pub record RangesMeet (a b : CellBox) : Type 0 where
   pub u_left : a.u0 ≤ℤ b.u1
   pub u_right : b.u0 ≤ℤ a.u1
   pub v_left : a.v0 ≤ℤ b.v1
@@ -20,7 +20,7 @@ pub record Overlap (a b : CellBox) : Type 0 where
 
 -- there are both boxes, and they share a cell
 abbrev pub SharesCell : Option CellBox → Option CellBox → Type 0
-SharesCell (Some a) (Some b) = Overlap a b
+SharesCell (Some a) (Some b) = RangesMeet a b
 SharesCell (Some a) None = ⊥
 SharesCell None b = ⊥
 

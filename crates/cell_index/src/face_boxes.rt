@@ -43,8 +43,8 @@ fn lies_in_front(mesh: &Mesh, face: u32, panel: Panel) -> bool
 
 // `k s / w` rounded down.
 fn floor_at(k: i32, s: i32, w: i32) -> i32
-    requires some { pos 1 ≤ℤ k }
-    requires fine { k ≤ℤ pos 256 }
+    requires least { pos 1 ≤ℤ k }
+    requires greatest { k ≤ℤ pos 256 }
     requires s_size { unsigned_abs s ≤ 262143 }
     requires front { pos 0 <ℤ w }
     ensures { result ≡ floor_of (k *ℤ s) w }
@@ -62,8 +62,8 @@ struct NodeCell {
 // The cell of the node at place t.
 fn node_cell(mesh: &Mesh, face: u32, panel: Panel, k: i32, t: u32) -> NodeCell
     requires face { (1 ≤ face) × (face ≤ length mesh.now.faces) }
-    requires some { pos 1 ≤ℤ k }
-    requires fine { k ≤ℤ pos 256 }
+    requires least { pos 1 ≤ℤ k }
+    requires greatest { k ≤ℤ pos 256 }
     requires front { IsTrue (is_in_front (corners_of mesh.now face) panel) }
     requires place { t < length (corners_of mesh.now face) }
     requires small { t < 16 }
@@ -121,8 +121,8 @@ fn common(a: CellBox, b: CellBox) -> CellBox
 
 // All cells of a panel.
 fn whole(k: i32) -> CellBox
-    requires some { pos 1 ≤ℤ k }
-    requires fine { k ≤ℤ pos 256 }
+    requires least { pos 1 ≤ℤ k }
+    requires greatest { k ≤ℤ pos 256 }
     ensures { result ≡ whole_panel k }
 {
     CellBox {
@@ -136,8 +136,8 @@ fn whole(k: i32) -> CellBox
 // The cells of the nodes and all between them, within the panel.
 fn fit(mesh: &Mesh, face: u32, panel: Panel, k: i32) -> CellBox
     requires face { (1 ≤ face) × (face ≤ length mesh.now.faces) }
-    requires some { pos 1 ≤ℤ k }
-    requires fine { k ≤ℤ pos 256 }
+    requires least { pos 1 ≤ℤ k }
+    requires greatest { k ≤ℤ pos 256 }
     requires front { IsTrue (is_in_front (corners_of mesh.now face) panel) }
     ensures { result ≡ range_of (corners_of mesh.now face) panel k }
 {
@@ -163,8 +163,8 @@ fn unless_empty(fitted: CellBox) -> Option<CellBox>
 // The box of a face on one panel.
 fn box_on(mesh: &Mesh, face: u32, panel: Panel, k: i32) -> Option<CellBox>
     requires face { (1 ≤ face) × (face ≤ length mesh.now.faces) }
-    requires some { pos 1 ≤ℤ k }
-    requires fine { k ≤ℤ pos 256 }
+    requires least { pos 1 ≤ℤ k }
+    requires greatest { k ≤ℤ pos 256 }
     ensures { result ≡ box_of (corners_of mesh.now face) panel k }
 {
     if lies_beyond(mesh, face, panel) {
@@ -184,8 +184,8 @@ fn box_on(mesh: &Mesh, face: u32, panel: Panel, k: i32) -> Option<CellBox>
 /// nodes and all between them. Else it is the whole panel.
 pub fn boxes_of(mesh: &Mesh, face: u32, k: i32) -> Boxes
     requires face { (1 ≤ face) × (face ≤ length mesh.now.faces) }
-    requires some { pos 1 ≤ℤ k }
-    requires fine { k ≤ℤ pos 256 }
+    requires least { pos 1 ≤ℤ k }
+    requires greatest { k ≤ℤ pos 256 }
     ensures { result.panel ≡ boxes (corners_of mesh.now face) k }
 {
     Boxes {
