@@ -1,3 +1,3 @@
-mod Sums
+pub mod Sums
 mod Counted
 mod Moves
