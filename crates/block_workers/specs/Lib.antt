@@ -1,0 +1,2 @@
+pub mod FinishedBlocks
+pub mod InPlace
