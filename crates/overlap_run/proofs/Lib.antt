@@ -6,4 +6,5 @@ mod FaceSteps
 mod RunSteps
 mod WholeSteps
 mod RingCorners
+mod Targets
 mod ClipCounts

@@ -2,6 +2,7 @@
 use Rattle.std.specs.Prelude.{◌≡◌, ℕ, ◌+◌, ◌-◌, ◌<◌, ◌≤◌, ◌⊎◌, List, [], ◌∷◌, ◌++◌, length, map, All}
 use Rattle.std.specs.List.{flat_map, range_with_len, sum_by}
 use Rattle.vec_exact.specs.declared.RawMesh.{RawMesh}
+use Rattle.cell_index.specs.CandidateList.{candidates_of}
 use Rattle.clip.specs.declared.pieces.Piece.{Piece}
 use Rattle.clip.specs.Overlaps.{IsSoundPiece}
 use Rattle.overlap_run.specs.declared.blocks.Block.{Block}
@@ -44,7 +45,7 @@ TakesPair a b pair old new = (DoMeet a b pair × AddsPiece a b pair old new) ⊎
 
 -- the target faces that are clipped with face i of a
 abbrev pub targets_of : RawMesh → RawMesh → ℕ → List ℕ
-targets_of a b i = range_with_len 1 (length b.faces)
+targets_of a b i = candidates_of a i b
 
 -- how many pairs are clipped for the source faces from `first` to `last`
 unfoldable pub clip_count : RawMesh → RawMesh → ℕ → ℕ → ℕ

@@ -1,8 +1,10 @@
 // A block of source faces: its pieces, or how many there are.
 ghost use Rattle.std.specs.Prelude.{◌≡◌, ◌+◌, ◌≤◌, IfOk, OnOk, length};
-ghost use Rattle.overlap_run.specs.Parts.{IsBlockOf, DoMeetWithin, targets_of, clip_count};
+ghost use Rattle.cell_index.specs.IndexOf.{IsIndexOf};
+ghost use Rattle.overlap_run.specs.Parts.{IsBlockOf, DoMeetWithin, clip_count};
 
 use crate::faces::clip_face;
+use cell_index::{Index, find_candidates};
 use clip::Pieces;
 use mesh_check::{Mesh, face_count};
 use std::alloc::Global;
@@ -22,30 +24,23 @@ pub struct Block {
     pub pieces: Pieces,
 }
 
-// The numbers of all faces of `b`, which are the faces that may meet face i of `a`. The contract
-// alone names `a` and `i`.
-fn targets(alloc: Global, _a: &Mesh, _i: u32, b: &Mesh) -> Result<Vec<u32>, NoMemory>
-    ensures { IfOk result (λ targets. targets.items ≡ targets_of _a.now b.now _i) }
-{
-    let count = face_count(b);
-    let mut targets = Vec::with_capacity(alloc, count as usize)?;
-    for j in 0..count {
-        targets.push(j + 1)?;
-    }
-    Ok(targets)
-}
-
-// The block of the source faces from `from` to `to`, each of which is clipped with its targets.
+/// The block of the source faces from `from` to `to` of `a`, which count from 1: each is clipped with
+/// its candidates among the faces of `b`, whose index is `index`. There is no face where `from` is
+/// `to` + 1. Its only error is want of memory.
+///
+/// It takes one step for each candidate of these faces, and no more than that after an error.
 pub fn clip_block<L: Ledger>(
     alloc: Global,
     a: &Mesh,
     b: &Mesh,
+    index: &Index,
     from: u32,
     to: u32,
     steps: &mut Steps<L>,
 ) -> Result<Block, NoMemory>
     requires from { (1 ≤ from) × (from ≤ to + 1) }
     requires to { to ≤ length a.now.faces }
+    requires index { IsIndexOf index.now b.now }
     ensures block { IfOk result (IsBlockOf a.now b.now (DoMeetWithin a.now b.now from to)) }
     ensures few { IfOk result (λ block. block.count ≤ clip_count a.now b.now from to) }
     ensures target_limit { length b.now.faces ≤ 1048576 }
@@ -59,8 +54,9 @@ pub fn clip_block<L: Ledger>(
         items: Vec::new(alloc),
     };
     let mut block = Block { count: 0, pieces };
+    let mut targets = Vec::new(alloc);
     for i in from..to + 1 {
-        let targets = targets(alloc, a, i, b)?;
+        find_candidates(index, a, i, &mut targets)?;
         clip_face(alloc, a, i, b, &targets, &mut block, steps)?;
     }
     Ok(block)

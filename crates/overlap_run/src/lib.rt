@@ -11,7 +11,7 @@ mod run;
 #[cfg(test)]
 mod tests;
 
-pub use blocks::Block;
+pub use blocks::{Block, clip_block};
 pub use faults::RunFault;
 pub use gates::{Gate, OpenGate};
 pub use laws::{law_one_list_of_pairs, law_one_overlap};

@@ -1,6 +1,7 @@
 // The overlap of two meshes, block by block.
 ghost use Rattle.std.specs.Prelude.{◌≡◌, ◌≢◌, ℕ, ◌+◌, ◌<◌, ◌≤◌, ◌^◌, ◌++◌, ◌∷◌, [], IfOk, IfErr, IsErr, OnOk, Err, length};
 ghost use Rattle.std.specs.List.{flat_map};
+ghost use Rattle.cell_index.specs.IndexOf.{IsIndexOf};
 ghost use Rattle.overlap_run.specs.Pairs.{IsPairCount};
 ghost use Rattle.overlap_run.specs.Whole.{IsOverlapOf, IsRefusalOf};
 ghost use Rattle.overlap_run.specs.Parts.{clip_count};
@@ -8,6 +9,7 @@ ghost use Rattle.overlap_run.specs.Runs.{IsRunOf};
 
 use crate::blocks::{GREATEST_COUNT, clip_block};
 use crate::{Block, Gate, RunFault};
+use cell_index::{Index, build};
 use clip::{Overlap, Pieces};
 use mesh_check::{Mesh, face_count};
 use std::alloc::Global;
@@ -46,9 +48,11 @@ fn ascending<G: Gate, L: Ledger>(
     alloc: Global,
     a: &Mesh,
     b: &Mesh,
+    index: &Index,
     gate: &G,
     steps: &mut Steps<L>,
 ) -> Result<Run, NoMemory>
+    requires index { IsIndexOf index.now b.now }
     ensures run { IfOk result (IsRunOf a.now b.now (length a.now.faces)) }
     ensures ticks { OnOk result (steps.new ≡ steps.old + clip_count a.now b.now 1 (length a.now.faces)) }
     ensures most { steps.new ≤ steps.old + clip_count a.now b.now 1 (length a.now.faces) }
@@ -62,7 +66,7 @@ fn ascending<G: Gate, L: Ledger>(
         let from = BLOCK_SIZE * s + 1;
         let to = faces.min(BLOCK_SIZE * (s + 1));
         gate.enter(s);
-        let block = clip_block(alloc, a, b, from, to, steps)?;
+        let block = clip_block(alloc, a, b, index, from, to, steps)?;
         gate.leave(s);
         take_block(&mut run, block)?;
     }
@@ -110,7 +114,8 @@ pub fn overlap<G: Gate + Sync, L: Ledger>(
     ensures ticks { workers ≡ 1 → result ≢ Err RunFault.NoMemory → steps.new ≡ steps.old + clip_count a.now b.now 1 (length a.now.faces) }
     ensures most { workers ≡ 1 → steps.new ≤ steps.old + clip_count a.now b.now 1 (length a.now.faces) }
 {
-    let run = ascending(alloc, a, b, gate, steps)?;
+    let index = build(alloc, b)?;
+    let run = ascending(alloc, a, b, &index, gate, steps)?;
     if run.count > GREATEST_COUNT {
         return Err(RunFault::TooManyPieces(run.count));
     }
