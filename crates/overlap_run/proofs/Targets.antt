@@ -167,11 +167,11 @@ module _ (a b : RawMesh) where
   one_way : (x y : ℕ) → x < y → y < x → ⊥
   one_way x y p q = omega (arith, p, q)
 
-  below : (l : List ℕ) → IsStrictlyIncreasing l → AllPairs ◌<◌ l
-  below l h i j d lt end = AllPairs-from_increasing l h i j d lt end
+  below : (l : List ℕ) → IsStrictlyIncreasing l → AllPairs (λ x y. x < y) l
+  below l h = AllPairs-from_increasing l h
 
   -- the ascending list of exactly the candidates is their list
   pub found_targets : (i : ℕ) (found : List ℕ) → IsStrictlyIncreasing found → HasCandidates a i b found → found ≡ targets_of a b i
   found_targets i found h has =
-      same_members ◌<◌ one_way found (targets_of a b i) (below found h) (below (targets_of a b i) (targets_ascend i))
+      same_members (λ x y. x < y) one_way found (targets_of a b i) (below found h) (below (targets_of a b i) (targets_ascend i))
       (λ j c. target_from_candidate i j ((has j).0 c)) (λ j c. (has j).1 (candidate_from_target i j c))

@@ -1,9 +1,9 @@
 use Rattle.std.proofs.Common.{◌≡◌, ◌+◌, ◌-◌, ◌≤◌, ◌<◌, ℕ, length, refl, ap, ◌∙◌, sym, subst, arith}
-use Rattle.std.proofs.lemmas.List.FromFn.{length-range_with_len}
 use Rattle.overlap_run.specs.Parts.{IsBlockOf, DoMeetWithin, clip_count}
 use Rattle.overlap_run.proofs.BlockSteps.{block_none}
 use Rattle.overlap_run.proofs.RunSteps.{no_faces}
-use Rattle.overlap_run.proofs.ClipCounts.{clip_count_none, clip_count_more, clip_count_grows, clip_count_fits, targets_are_faces, targets_ascend, targets_are_all}
+use Rattle.overlap_run.proofs.ClipCounts.{clip_count_none, clip_count_more, clip_count_grows, clip_count_fits}
+use Rattle.overlap_run.proofs.Targets.{targets_are_faces, targets_at_most, found_targets}
 use Rattle.overlap_run.proofs.blocks.clip_block.Goals as goal
 
 pub loop-i-init : goal.loop-i-init
@@ -17,8 +17,8 @@ loop-i-init g c =
       ticks = omega (arith, clip_count_none a b c.args.from (c.args.from - 1) none);
     }
 
-pub returns-in_err-targets-clause-most : goal.returns-in_err-targets-clause-most
-returns-in_err-targets-clause-most g c =
+pub returns-in_err-find_candidates-clause-most : goal.returns-in_err-find_candidates-clause-most
+returns-in_err-find_candidates-clause-most g c =
     omega (
       arith,
       c.loop-i.invariant.ticks,
@@ -26,7 +26,7 @@ returns-in_err-targets-clause-most g c =
     )
 
 pub clip_face-requires-clause-targets : goal.clip_face-requires-clause-targets
-clip_face-requires-clause-targets g c = targets_are_faces c.args.a.now c.args.b.now c.loop-i.i c.deref.result.now (c.deref.ensures.value ∙ c.in_ok-targets.ensures)
+clip_face-requires-clause-targets g c = subst (All (IsFaceNumber c.args.b.now)) (sym (found g c)) (targets_are_faces c.args.a.now c.args.b.now c.loop-i.i)
 
 pub clip_face-requires-clause-ascending : goal.clip_face-requires-clause-ascending
 clip_face-requires-clause-ascending g c = targets_ascend c.args.a.now c.args.b.now c.loop-i.i c.deref.result.now (c.deref.ensures.value ∙ c.in_ok-targets.ensures)
