@@ -3,7 +3,7 @@ use Rattle.std.proofs.Common.{◌≡◌, ℕ, zero, suc, ◌+◌, ◌-◌, ◌<�
 use Rattle.std.specs.List.{All, AllPairs, Contains, filter, range_with_len}
 use Rattle.std.specs.List.Sorted.{IsStrictlyIncreasing}
 use Rattle.std.proofs.lemmas.List.FromFn.{length-range_with_len, get_or-range_with_len}
-use Rattle.std.proofs.lemmas.List.Elements.{All-from_get_or, All-get_or, All-filter, filter_passes}
+use Rattle.std.proofs.lemmas.List.Elements.{All-from_get_or, All-filter, filter_passes}
 use Rattle.std.proofs.lemmas.List.Kept.{IsStrictlyIncreasing-filter, AllPairs-from_increasing}
 use Rattle.vec_exact.specs.declared.Vec3.{Vec3}
 use Rattle.vec_exact.specs.declared.RawMesh.{RawMesh}
@@ -41,7 +41,7 @@ module _ (f g : List Vec3) (k : ℤ) where
   on_panel : (panel : Panel) → do_share_on f g k panel ≡ true → IsCandidate f g k
   on_panel panel h = (panel, (cell_decides _ _).0 h)
 
-  x : Panel → Bool
+  abbrev x : Panel → Bool
   x panel = do_share_on f g k panel
 
   pub candidate_from_test : are_candidates f g k ≡ true → IsCandidate f g k
@@ -74,42 +74,40 @@ module _ (f g : List Vec3) (k : ℤ) where
   test_from_candidate c = test_from_panel c.0 ((cell_decides _ _).1 c.1)
 
 -- ---- filtered lists
-filter_step : {X : Type 0} (p : X → Bool) (x : X) (xs : List X) → filter p (x ∷ xs) ≡ cond (p x) (x ∷ filter p xs) (filter p xs)
-filter_step p x xs = refl
+kept : {X : Type 0} (p : X → Bool) (x : X) (xs : List X) → p x ≡ true → filter p (x ∷ xs) ≡ x ∷ filter p xs
+kept p x xs e = ap (λ (t : Bool). cond t (x ∷ filter p xs) (filter p xs)) e
 
-pub filter_at_most : {X : Type 0} (p : X → Bool) (xs : List X) → length (filter p xs) ≤ length xs
+dropped : {X : Type 0} (p : X → Bool) (x : X) (xs : List X) → p x ≡ false → filter p (x ∷ xs) ≡ filter p xs
+dropped p x xs e = ap (λ (t : Bool). cond t (x ∷ filter p xs) (filter p xs)) e
+
+one_at_most : {X : Type 0} (p : X → Bool) (x : X) (xs : List X) (t : Bool) → p x ≡ t → length (filter p xs) ≤ length xs → length (filter p (x ∷ xs)) ≤ suc (length xs)
+one_at_most {X} p x xs true e h = subst (λ (l : List X). length l ≤ suc (length xs)) (sym (kept p x xs e)) (omega (arith, h))
+one_at_most {X} p x xs false e h = subst (λ (l : List X). length l ≤ suc (length xs)) (sym (dropped p x xs e)) (omega (arith, h))
+
+filter_at_most : {X : Type 0} (p : X → Bool) (xs : List X) → length (filter p xs) ≤ length xs
 filter_at_most p [] = omega arith
-filter_at_most {X} p (x ∷ xs) = step (p x) refl
-  where
-    step : (t : Bool) → p x ≡ t → length (filter p (x ∷ xs)) ≤ length (x ∷ xs)
-    step true e =
-        let kept : filter p (x ∷ xs) ≡ x ∷ filter p xs = ap (λ (t : Bool). cond t (x ∷ filter p xs) (filter p xs)) e in
-        subst (λ (l : List X). length l ≤ suc (length xs)) (sym kept) (omega (arith, filter_at_most p xs))
-    step false e =
-        let dropped : filter p (x ∷ xs) ≡ filter p xs = ap (λ (t : Bool). cond t (x ∷ filter p xs) (filter p xs)) e in
-        subst (λ (l : List X). length l ≤ suc (length xs)) (sym dropped) (omega (arith, filter_at_most p xs))
+filter_at_most p (x ∷ xs) = one_at_most p x xs (p x) refl (filter_at_most p xs)
 
-pub filter_member : {X : Type 0} (p : X → Bool) (xs : List X) (y : X) → Contains xs y → p y ≡ true → Contains (filter p xs) y
+one_member : {X : Type 0} (p : X → Bool) (x : X) (xs : List X) (y : X) (t : Bool) → p x ≡ t → p y ≡ true → (x ≡ y) ⊎ Contains (filter p xs) y → Contains (filter p (x ∷ xs)) y
+one_member {X} p x xs y true e h (inl same) =
+    subst (λ (l : List X). Contains l y) (sym (kept p x xs e)) (subst (Contains (x ∷ filter p xs)) same (member_here x (filter p xs)))
+one_member {X} p x xs y true e h (inr there) = subst (λ (l : List X). Contains l y) (sym (kept p x xs e)) (member_there x y (filter p xs) there)
+one_member {X} p x xs y false e h (inl same) =
+    let clash : false ≡ true = sym e ∙ ap p same ∙ h in
+    absurd (grind arith)
+one_member {X} p x xs y false e h (inr there) = subst (λ (l : List X). Contains l y) (sym (dropped p x xs e)) there
+
+filter_member : {X : Type 0} (p : X → Bool) (xs : List X) (y : X) → Contains xs y → p y ≡ true → Contains (filter p xs) y
 filter_member p [] y c h = absurd (omega (arith, c.1))
-filter_member {X} p (x ∷ xs) y c h = step (p x) refl
-  where
-    step : (t : Bool) → p x ≡ t → Contains (filter p (x ∷ xs)) y
-    step true e =
-        let kept : filter p (x ∷ xs) ≡ x ∷ filter p xs = ap (λ (t : Bool). cond t (x ∷ filter p xs) (filter p xs)) e in
-        subst (λ (l : List X). Contains l y) (sym kept) (elim (member_cases x y xs c) [
-          | inl same ↦ subst (λ (z : X). Contains (x ∷ filter p xs) z) same (member_here x (filter p xs))
-          | inr there ↦ member_there x y (filter p xs) (filter_member p xs y there h)
-        ])
-    step false e =
-        let dropped : filter p (x ∷ xs) ≡ filter p xs = ap (λ (t : Bool). cond t (x ∷ filter p xs) (filter p xs)) e in
-        subst (λ (l : List X). Contains l y) (sym dropped) (elim (member_cases x y xs c) [
-          | inl same ↦ absurd (grind (arith, h, e, same))
-          | inr there ↦ filter_member p xs y there h
-        ])
+filter_member p (x ∷ xs) y c h =
+    one_member p x xs y (p x) refl h (elim (member_cases x y xs c) [
+      | inl same ↦ inl same
+      | inr there ↦ inr (filter_member p xs y there h)
+    ])
 
 -- ---- the faces of a mesh, by number
 module _ (b : RawMesh) where
-  faces : List ℕ
+  abbrev faces : List ℕ
   faces = range_with_len 1 (length b.faces)
 
   faces_ascend : IsStrictlyIncreasing faces
@@ -135,7 +133,7 @@ module _ (b : RawMesh) where
 
 -- ---- the candidates of a face
 module _ (a b : RawMesh) where
-  test : ℕ → ℕ → Bool
+  abbrev test : ℕ → ℕ → Bool
   test i j = are_candidates (corners_of a i) (corners_of b j) (fineness_of (length b.faces))
 
   pub targets_at_most : (i : ℕ) → length (targets_of a b i) ≤ length b.faces
@@ -160,8 +158,8 @@ module _ (a b : RawMesh) where
 
   candidate_from_target : (i j : ℕ) → Contains (targets_of a b i) j → AreCandidates a i b j
   candidate_from_target i j c =
-      let face : IsFaceNumber b j = subst (IsFaceNumber b) c.2 (All-get_or (IsFaceNumber b) (targets_of a b i) c.0 j (targets_are_faces i) c.1) in
-      let good : test i j ≡ true = subst (λ (x : ℕ). test i x ≡ true) c.2 (All-get_or (λ x. test i x ≡ true) (targets_of a b i) c.0 j (passes i) c.1) in
+      let face : IsFaceNumber b j = subst (IsFaceNumber b) c.2 (targets_are_faces i c.0 j c.1) in
+      let good : test i j ≡ true = subst (λ (x : ℕ). test i x ≡ true) c.2 (passes i c.0 j c.1) in
       record { first = face.0; last = face.1; share = candidate_from_test _ _ _ good }
 
   one_way : (x y : ℕ) → x < y → y < x → ⊥

@@ -1,4 +1,5 @@
-use Rattle.std.proofs.Common.{◌≡◌, ◌+◌, ◌-◌, ◌≤◌, ◌<◌, ℕ, length, refl, ap, ◌∙◌, sym, subst, arith}
+use Rattle.std.proofs.Common.{All, List, Contains, ◌≡◌, ◌+◌, ◌-◌, ◌≤◌, ◌<◌, ℕ, length, refl, ap, ◌∙◌, sym, subst, arith}
+use Rattle.clip.specs.Planes.{IsFaceNumber}
 use Rattle.overlap_run.specs.Parts.{IsBlockOf, DoMeetWithin, clip_count}
 use Rattle.overlap_run.proofs.BlockSteps.{block_none}
 use Rattle.overlap_run.proofs.RunSteps.{no_faces}
@@ -26,13 +27,17 @@ returns-in_err-find_candidates-clause-most g c =
     )
 
 pub clip_face-requires-clause-targets : goal.clip_face-requires-clause-targets
-clip_face-requires-clause-targets g c = subst (All (IsFaceNumber c.args.b.now)) (sym (found g c)) (targets_are_faces c.args.a.now c.args.b.now c.loop-i.i)
-
-pub clip_face-requires-clause-ascending : goal.clip_face-requires-clause-ascending
-clip_face-requires-clause-ascending g c = targets_ascend c.args.a.now c.args.b.now c.loop-i.i c.deref.result.now (c.deref.ensures.value ∙ c.in_ok-targets.ensures)
+clip_face-requires-clause-targets g c =
+    let a = c.args.a.now in
+    let b = c.args.b.now in
+    let found = c.find_candidates.new.found.items in
+    subst (All (IsFaceNumber b)) (sym (c.deref.ensures.value ∙ found_targets a b c.loop-i.i found c.in_ok-find_candidates.ensures.ascending (c.in_ok-find_candidates.ensures.candidates b c.requires.index)))
+    (targets_are_faces a b c.loop-i.i)
 
 pub clip_face-requires-clause-all : goal.clip_face-requires-clause-all
-clip_face-requires-clause-all g c j face meets = targets_are_all c.args.a.now c.args.b.now c.loop-i.i c.deref.result.now (c.deref.ensures.value ∙ c.in_ok-targets.ensures) j face
+clip_face-requires-clause-all g c j face meets =
+    let b = c.args.b.now in
+    subst (λ (l : List ℕ). Contains l j) (sym c.deref.ensures.value) (c.in_ok-find_candidates.ensures.meeting b c.face_count-target_faces.ensures.accepted c.requires.index j face.0 face.1 meets)
 
 pub clip_face-requires-clause-room : goal.clip_face-requires-clause-room
 clip_face-requires-clause-room g c =
@@ -40,13 +45,13 @@ clip_face-requires-clause-room g c =
     let b = c.args.b.now in
     let source = c.face_count-source_faces.ensures.accepted.counts.face_limit in
     let target = c.face_count-target_faces.ensures.accepted.counts.face_limit in
-    let tried = ap (length {A = ℕ}) (c.deref.ensures.value ∙ c.in_ok-targets.ensures) in
+    let tried = ap (length {A = ℕ}) (c.deref.ensures.value ∙ found_targets c.args.a.now c.args.b.now c.loop-i.i c.find_candidates.new.found.items c.in_ok-find_candidates.ensures.ascending (c.in_ok-find_candidates.ensures.candidates c.args.b.now c.requires.index)) in
     omega (
       arith,
       c.loop-i.invariant.few,
       clip_count_fits a b c.args.from (c.loop-i.i - 1) c.requires.from.0 (omega (arith, c.loop-i-test.true, c.requires.to)) source target,
       tried,
-      length-range_with_len 1 (length b.faces),
+      targets_at_most a b c.loop-i.i,
       target,
     )
 
@@ -58,7 +63,7 @@ returns-in_err-clip_face-clause-most g c =
       arith,
       c.loop-i.invariant.ticks,
       c.clip_face.ensures.most,
-      ap (length {A = ℕ}) (c.deref.ensures.value ∙ c.in_ok-targets.ensures),
+      ap (length {A = ℕ}) (c.deref.ensures.value ∙ found_targets c.args.a.now c.args.b.now c.loop-i.i c.find_candidates.new.found.items c.in_ok-find_candidates.ensures.ascending (c.in_ok-find_candidates.ensures.candidates c.args.b.now c.requires.index)),
       clip_count_more a b c.args.from c.loop-i.i c.requires.from.0 c.loop-i.auto.i,
       clip_count_grows a b c.args.from c.loop-i.i c.args.to (omega (arith, c.loop-i.auto.i)) (omega (arith, c.loop-i-test.true)),
     )
@@ -69,7 +74,7 @@ loop-i-preserved g c =
     let b = c.args.b.now in
     let back : c.loop-i.i + 1 - 1 ≡ c.loop-i.i = omega arith in
     let same = ap (clip_count a b c.args.from) back in
-    let tried = ap (length {A = ℕ}) (c.deref.ensures.value ∙ c.in_ok-targets.ensures) in
+    let tried = ap (length {A = ℕ}) (c.deref.ensures.value ∙ found_targets c.args.a.now c.args.b.now c.loop-i.i c.find_candidates.new.found.items c.in_ok-find_candidates.ensures.ascending (c.in_ok-find_candidates.ensures.candidates c.args.b.now c.requires.index)) in
     let more = clip_count_more a b c.args.from c.loop-i.i c.requires.from.0 c.loop-i.auto.i in
     record {
       block = subst (λ (n : ℕ). IsBlockOf a b (DoMeetWithin a b c.args.from n) c.clip_face.new.block) (sym back)
