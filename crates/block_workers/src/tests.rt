@@ -1,29 +1,59 @@
 // Blocks by one worker and by several, and that two workers are at work beside each other.
-ghost use Rattle.std.specs.Prelude.{◌≡◌, ◌*◌};
+ghost use Rattle.std.specs.Prelude.{◌≡◌, ◌^◌, ◌<◌, ◌≤◌, length, slice_index, IfOk};
+ghost use Rattle.block_workers.specs.InPlace.{AllInPlace};
 
 use crate::{BlockJob, run_blocks};
 use std::alloc::Global;
 use std::sync::atomic::{AtomicU64, Ordering};
 use std::test::Fail;
+use std::thread::Threads;
 use vec_exact::NoMemory;
 
-// The square of each number.
-#[derive(Drop)]
-struct Squares {
-    blocks: u32,
+// Told of each block before it is done.
+trait Gate {
+    fn enter(&self, block: u32);
 }
 
-impl BlockJob for Squares {
+struct OpenGate;
+
+impl Gate for OpenGate {
+    fn enter(&self, _block: u32) {}
+}
+
+// The numbers of a borrowed list, one a block.
+#[derive(Drop)]
+struct Listed<'a, G> {
+    numbers: &'a [u64],
+    gate: &'a G,
+}
+
+impl<'a, G: Gate + Sync> BlockJob for Listed<'a, G> {
     type Output = u64;
 
-    ghost blocks = { λ job. job.blocks };
+    ghost blocks = { λ job. length job.numbers.now };
 
-    ghost gives = { λ _ block output. output ≡ block * block };
+    ghost gives = { λ job block output. output ≡ slice_index job.numbers.now block };
 
     fn run(&self, _alloc: Global, block: u32) -> Result<u64, NoMemory> {
-        let number = u64::from(block);
-        Ok(number * number)
+        self.gate.enter(block);
+        Ok(self.numbers[block as usize])
     }
+}
+
+fn read_by_blocks<R: Threads, G: Gate + Sync>(
+    rt: &R,
+    alloc: Global,
+    numbers: &[u64],
+    workers: u32,
+    gate: &G,
+) -> Result<Vec<u64>, NoMemory>
+    requires workers { (1 ≤ workers) × (workers ≤ 64) }
+    requires blocks { length numbers.now < 2 ^ 32 }
+    ensures count { IfOk result (λ outputs. length outputs.items ≡ length numbers.now) }
+    ensures each { IfOk result (λ outputs. AllInPlace (λ s x. x ≡ slice_index numbers.now s) outputs.items) }
+{
+    let job = Listed { numbers, gate };
+    run_blocks(rt, alloc, &job, numbers.len() as u32, workers)
 }
 
 // The last block finds no memory.
@@ -136,12 +166,12 @@ impl BlockJob for OneWaits {
 
 #[test]
 fn one_and_more_workers(rt: HostRuntime) -> Result<(), Fail> {
-    let job = Squares { blocks: 5 };
+    let numbers = [3, 1, 4, 1, 5];
     for workers in [1, 4, 64] {
-        let squares = run_blocks(&rt, rt.alloc(), &job, 5, workers)?;
-        assert_eq!(rt; squares.as_slice(), [0, 1, 4, 9, 16].as_slice());
+        let same = read_by_blocks(&rt, rt.alloc(), &numbers, workers, &OpenGate)?;
+        assert_eq!(rt; same.as_slice(), numbers.as_slice());
     }
-    let nothing = run_blocks(&rt, rt.alloc(), &job, 0, 2)?;
+    let nothing = read_by_blocks(&rt, rt.alloc(), &[], 2, &OpenGate)?;
     assert!(rt; nothing.is_empty());
     Ok(())
 }
