@@ -1,5 +1,5 @@
 -- What is answered for a name, by what is answered at all; and how many bytes were asked for.
-use Rattle.std.proofs.Common.{◌≡◌, ◌⊎◌, inl, inr, ℕ, ◌+◌, ◌*◌, ◌<◌, ◌≤◌, List, ◌++◌, length, drop, Option, Some, None, IsSomeAnd, Result, Ok, Err, refl, sym, ap, subst, ◌∙◌, arith, append_assoc}
+use Rattle.std.proofs.Common.{◌≡◌, inl, inr, ℕ, ◌+◌, ◌<◌, ◌≤◌, List, ◌++◌, length, drop, Option, Some, None, IsSomeAnd, Result, Ok, Err, refl, sym, ap, subst, ◌∙◌, arith, append_assoc}
 use Rattle.std.specs.Prelude.{IfOk, IfErr}
 use Rattle.remap_io.specs.Folder.{Folder, file_at}
 use Rattle.nc_format.specs.declared.NcFile.{NcFile}
@@ -11,7 +11,7 @@ use Rattle.remap_load.specs.declared.Head.{Head}
 use Rattle.remap_load.specs.declared.fault.LoadFault.{LoadFault}
 use Rattle.remap_load.specs.declared.fault.LoadFault.TheVariants.{Absent, Failed, TooLong, Format, NoMemory}
 use Rattle.remap_load.specs.Frame.{OnFile, OnNoFile, Holds, Lacks}
-use Rattle.remap_load.specs.Heads.{IsHead, IsHeadOfBytes, IsFront, IsGrown, header_cost}
+use Rattle.remap_load.specs.Heads.{IsHead, IsHeadOfBytes, IsGrown, header_cost}
 use Rattle.remap_load.specs.Faults.{IsFaultOf, Refuses, Finds}
 use Rattle.remap_load.proofs.Fronts.{front_split, header_longer}
 

@@ -1,6 +1,6 @@
 -- The first bytes of a file, and the header that they begin with.
-use Rattle.std.proofs.Common.{◌≡◌, ◌≢◌, ◌⊎◌, inl, inr, ℕ, ◌+◌, ◌-◌, ◌*◌, ◌<◌, ◌≤◌, List, ◌++◌, length, take, drop, slice_range, Option, Some, None, IsSomeAnd, Result, Ok, Err, IsErrAnd, refl, sym, ap, ap₂, subst, ◌∙◌, arith}
-use Rattle.std.proofs.lemmas.List.{length-append, length-drop, length-take, take-append-drop, take_all, length-take-le}
+use Rattle.std.proofs.Common.{◌≡◌, ◌⊎◌, inl, inr, ℕ, ◌+◌, ◌-◌, ◌<◌, ◌≤◌, List, ◌++◌, length, take, drop, slice_range, Option, Some, None, IsSomeAnd, Result, Ok, Err, IsErrAnd, sym, ap, ap₂, subst, ◌∙◌, arith}
+use Rattle.std.proofs.lemmas.List.{take-append-drop, take_all}
 use Rattle.std.specs.Prelude.{IfErr}
 use Rattle.std.proofs.lemmas.Bool.{cases_lt}
 use Rattle.std.proofs.Math.Seq.{take-append-add}
@@ -56,7 +56,7 @@ no_some : (o : ℕ) → (let none : Option NcFault = None in none ≡ Some (Trun
 no_some o h = absurd cc
 
 ≤-or-> : (n m : ℕ) → (n ≤ m) ⊎ (m < n)
-≤-or-> n m = elim (cases_lt m n) [ | inl lt ↦ inr lt | inr le ↦ inl le ]
+≤-or-> n m = elim (cases_lt m n) [ inl lt ↦ inr lt | inr le ↦ inl le ]
 
 -- a header of bytes that were cut inside it is longer than what was cut
 pub header_longer : (b : List ℕ) (fewer len : ℕ) (f : NcFile) (h : IsHeader b len f) → IsCut (take fewer b) len → fewer < length h.header
@@ -64,7 +64,7 @@ header_longer b fewer len f h cut =
     elim (≤-or-> (length h.header) fewer) [
       | inl le ↦
           let rest : take fewer b ≡ h.header ++ take (fewer - length h.header) h.rest =
-              ap (λ (s : List ℕ). take fewer s) h.parts ∙ ap (λ (k : ℕ). take k (h.header ++ h.rest)) (let e : fewer ≡ length h.header + (fewer - length h.header) = omega arith in e) ∙ take-append-add h.header h.rest (fewer - length h.header) in
+          ap (λ (s : List ℕ). take fewer s) h.parts ∙ ap (λ (k : ℕ). take k (h.header ++ h.rest)) (let e : fewer ≡ length h.header + (fewer - length h.header) = omega arith in e) ∙ take-append-add h.header h.rest (fewer - length h.header) in
           let short : IsHeader (take fewer b) len f = record { header = h.header; rest = take (fewer - length h.header) h.rest; fields = h.fields; parts = rest; spelled = h.spelled; placed = h.placed; inside = h.inside } in
           absurd (no_some cut.place (sym (no_fault_is (take fewer b) len f short) ∙ cut.fault))
       | inr lt ↦ lt

@@ -1,7 +1,7 @@
 -- Which faults a call answers. Source: our own.
 use Rattle.std.specs.Prelude.{◌≡◌, ◌≢◌, ◌⊎◌, ◌<◌, ◌≤◌, ℕ, List, length, Option, Some, Result, Err, IsOkAnd, ⊤}
 use Rattle.remap_io.specs.Folder.{Folder}
-use Rattle.nc_format.specs.declared.fault.NcFault.TheVariants.{Truncated, NoMemory as WantOfMemory}
+use Rattle.nc_format.specs.declared.fault.NcFault.TheVariants.{NoMemory as WantOfMemory}
 use Rattle.nc_format.specs.declared.NcFile.{NcFile}
 use Rattle.nc_format.specs.Header.{first_fault, IsSettled}
 use Rattle.remap_load.specs.declared.Head.{Head}

@@ -1,3 +1,4 @@
+pub mod Faults
 pub mod Frame
 pub mod Heads
-pub mod Faults
+pub mod Pieces

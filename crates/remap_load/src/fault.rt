@@ -1,5 +1,6 @@
 // Why a header or a variable wasn't loaded.
 use nc_format::NcFault;
+use std::alloc::AllocError;
 use vec_exact::NoMemory;
 
 /// Why a header or the values of a variable weren't loaded.
@@ -24,6 +25,17 @@ impl From<NoMemory> for LoadFault {
     ghost from_gives = { λ _ e. e ≡ faults.NoMemory };
 
     fn from(_: NoMemory) -> Self {
+        LoadFault::NoMemory
+    }
+}
+
+impl From<AllocError> for LoadFault {
+    ghost use Rattle.std.specs.Prelude.{◌≡◌};
+    ghost use Rattle.remap_load.specs.declared.fault.LoadFault.TheVariants as faults;
+
+    ghost from_gives = { λ _ e. e ≡ faults.NoMemory };
+
+    fn from(_: AllocError) -> Self {
         LoadFault::NoMemory
     }
 }

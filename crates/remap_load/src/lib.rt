@@ -4,10 +4,14 @@
 mod fault;
 mod header;
 mod reads;
+#[cfg(test)]
+mod tests;
+mod variables;
 
 pub use fault::LoadFault;
 pub use header::load_header;
 use nc_format::{Bytes, NcFile};
+pub use variables::{load_ints, load_longs};
 
 /// The head of a file: its header, its length in bytes, and the first bytes of it, which were read
 /// for the header.

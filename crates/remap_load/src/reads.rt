@@ -35,12 +35,7 @@ pub fn length_of<F: Files>(files: &mut F, name: &str) -> Result<u64, LoadFault>
 }
 
 /// Fills `buf` with the bytes of a file from `at` on.
-pub fn read<F: Files>(
-    files: &mut F,
-    name: &str,
-    at: u64,
-    buf: &mut [u8],
-) -> Result<(), LoadFault>
+pub fn read<F: Files>(files: &mut F, name: &str, at: u64, buf: &mut [u8]) -> Result<(), LoadFault>
     requires in_file { OnFile (F.folder files.old) name.now (λ bytes. at + length buf.old ≤ length bytes) }
     ensures filled { OnOk result (OnFile (F.folder files.old) name.now (λ bytes. buf.new ≡ slice_range bytes at (at + length buf.old))) }
     ensures absent { IsErrOf result LoadFault.Absent → Rose (F.misses files.old) (F.misses files.new) }

@@ -1,4 +1,4 @@
-use Rattle.std.proofs.Common.{rules, ◌≡◌, ◌≤◌, ◌<◌, ◌+◌, ◌++◌, ℕ, List, length, min, subst, sym, arith, Option, slice_range}
+use Rattle.std.proofs.Common.{rules, ◌≡◌, ◌+◌, ◌++◌, ℕ, List, length, subst, sym, arith, Option, slice_range}
 use Rattle.remap_io.specs.Folder.{Folder}
 use Rattle.remap_load.specs.declared.Head.{Head}
 use Rattle.remap_load.specs.Frame.{OnFile}
@@ -36,7 +36,7 @@ growing-preserved g c =
     let read : OnFile before name (λ all. next ≡ front ++ slice_range all have (have + more)) = c.in_ok-read_behind.ensures.read in
     let long : length next ≡ length front + more = c.in_ok-read_behind.ensures.len in
     let here : OnFile before name (IsFront next c.args.len) =
-        on_file before name (IsFront front c.args.len) (λ all. next ≡ front ++ slice_range all have (have + more)) (IsFront next c.args.len) (λ bytes h is. next_front front next c.args.len have more bytes (search rules) h is long) c.growing.invariant.front read in
+    on_file before name (IsFront front c.args.len) (λ all. next ≡ front ++ slice_range all have (have + more)) (IsFront next c.args.len) (λ bytes h is. next_front front next c.args.len have more bytes (search rules) h is long) c.growing.invariant.front read in
     let cut : IsCut front c.args.len = search rules in
     record {
       within = omega (arith, long, cut.shorter);

@@ -1,4 +1,4 @@
-use Rattle.std.proofs.Common.{◌≡◌, ◌⊎◌, ◌≤◌, ◌<◌, ◌-◌, ◌+◌, length}
+use Rattle.std.proofs.Common.{◌≤◌, ◌<◌, ◌-◌, ◌+◌, length}
 use Rattle.remap_load.specs.Frame.{OnlyReads, OnFile}
 use Rattle.remap_load.specs.Heads.{IsFront, IsGrown}
 use Rattle.remap_load.proofs.header.load_from.Given as goal
