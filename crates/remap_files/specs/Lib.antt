@@ -1,0 +1,2 @@
+pub mod OverlapDocument
+pub mod Written
