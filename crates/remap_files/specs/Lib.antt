@@ -1,2 +1,6 @@
 pub mod OverlapDocument
 pub mod Written
+pub mod Answers
+pub mod OverlapNames
+pub mod OverlapRows
+pub mod OverlapIn
