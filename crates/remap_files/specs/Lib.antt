@@ -4,3 +4,5 @@ pub mod Answers
 pub mod OverlapNames
 pub mod OverlapRows
 pub mod OverlapIn
+pub mod Rows
+pub mod Found

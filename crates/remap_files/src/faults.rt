@@ -29,6 +29,14 @@ impl From<AllocError> for FileFault {
     }
 }
 
+impl From<vec_exact::NoMemory> for FileFault {
+    ghost from_gives = { λ _ fault. fault ≡ NoMemory };
+
+    fn from(_: vec_exact::NoMemory) -> Self {
+        FileFault::NoMemory
+    }
+}
+
 impl<T: Drop> From<AllocFailed<T>> for FileFault {
     ghost from_gives = { λ _ fault. fault ≡ NoMemory };
 

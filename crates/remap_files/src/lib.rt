@@ -7,6 +7,8 @@ mod faults;
 mod finding;
 mod lengths;
 mod names;
+mod reading;
+mod rows;
 mod variables;
 mod vars;
 
@@ -14,4 +16,6 @@ pub use document::overlap_doc;
 pub use faults::FileFault;
 pub use finding::find_overlap;
 pub use lengths::{corner_count, overlap_length};
+pub use reading::read_overlap;
+pub use rows::overlap_from;
 pub use vars::OverlapVars;
