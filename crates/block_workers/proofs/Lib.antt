@@ -1,1 +1,2 @@
+mod JoinedShares
 mod Slots

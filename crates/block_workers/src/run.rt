@@ -1,9 +1,8 @@
 // All workers.
-ghost use Rattle.std.specs.Prelude.{◌≡◌, ℕ, ◌+◌, ◌-◌, ◌<◌, ◌≤◌, [], ◌++◌, length, None, IfOk, true, All};
-ghost use Rattle.std.specs.Thread.{IsSync, IsSend};
+ghost use Rattle.std.specs.Prelude.{◌≡◌, ◌+◌, ◌≤◌, ◌++◌, length, IfOk, true};
 ghost use Rattle.block_claims.specs.Seen.{IsTicketOf, IsWhole};
-ghost use Rattle.block_claims.specs.Views.{is_done as is_done_view, further_view};
-ghost use Rattle.block_workers.specs.FinishedBlocks.{numbers, IsRight};
+ghost use Rattle.block_claims.specs.Views.{is_done as is_done_view};
+ghost use Rattle.block_workers.specs.Shares.{IsFreshTicket, IsShareOf};
 ghost use Rattle.block_workers.specs.InPlace.{AllInPlace};
 
 use crate::job::BlockJob;
@@ -44,18 +43,12 @@ fn spread<R: Threads, J: BlockJob>(
     workers: u32,
 ) -> Result<Share<J::Output>, NoMemory>
     requires blocks { claims.now.blocks ≤ J.blocks job.now }
-    requires ours { IsTicketOf claims.now first }
-    requires first { first.view.kind ≡ Kind.First }
-    requires nothing_drawn { first.view.mine ≡ [] }
-    requires going { first.view.last ≡ None }
+    requires first { IsFreshTicket claims.now Kind.First first }
     requires workers { (1 ≤ workers) × (first.view.made + workers ≤ 65) }
-    ensures ours { IfOk result (λ share. IsTicketOf claims.now share.ticket) }
-    ensures first { IfOk result (λ share. share.ticket.view.kind ≡ Kind.First) }
+    ensures share { IfOk result (IsShareOf (J.gives job.now) claims.now Kind.First) }
     ensures made { IfOk result (λ share. share.ticket.view.made + 1 ≡ first.view.made + workers) }
     ensures back { IfOk result (λ share. share.ticket.view.back + 1 ≡ first.view.back + workers) }
     ensures done { IfOk result (λ share. is_done_view share.ticket.view ≡ true) }
-    ensures mine { IfOk result (λ share. numbers share.finished.items ≡ share.ticket.view.mine) }
-    ensures right { IfOk result (λ share. All (IsRight claims.now.blocks (J.gives job.now)) share.finished.items) }
     ensures whole { IfOk result (λ share. IsWhole share.ticket.view) }
 {
     if workers == 1 {
@@ -65,12 +58,12 @@ fn spread<R: Threads, J: BlockJob>(
     let (theirs, ours) = join(
         rt,
         || -> Result<Share<J::Output>, NoMemory>
-            requires { (claims.now.blocks ≤ J.blocks job.now) × IsTicketOf claims.now further × (further.view ≡ further_view claims.now.blocks) }
-            ensures { IfOk result (λ share. IsTicketOf claims.entry.now share.ticket × (share.ticket.view.kind ≡ Kind.Further) × (numbers share.finished.items ≡ share.ticket.view.mine) × All (IsRight claims.entry.now.blocks (J.gives job.entry.now)) share.finished.items) }
+            requires { (claims.now.blocks ≤ J.blocks job.now) × IsFreshTicket claims.now Kind.Further further }
+            ensures { IfOk result (IsShareOf (J.gives job.entry.now) claims.entry.now Kind.Further) }
         { work(alloc, job, claims, further) },
         || -> Result<Share<J::Output>, NoMemory>
-            requires { (claims.now.blocks ≤ J.blocks job.now) × IsTicketOf claims.now first × (first.view.kind ≡ Kind.First) × (first.view.mine ≡ []) × (first.view.last ≡ None) × (2 ≤ workers) × (first.view.made + workers ≤ 66) }
-            ensures { IfOk result (λ share. IsTicketOf claims.entry.now share.ticket × (share.ticket.view.kind ≡ Kind.First) × (share.ticket.view.made + 2 ≡ first.view.made + workers) × (share.ticket.view.back + 2 ≡ first.view.back + workers) × (is_done_view share.ticket.view ≡ true) × (numbers share.finished.items ≡ share.ticket.view.mine) × All (IsRight claims.entry.now.blocks (J.gives job.entry.now)) share.finished.items) }
+            requires { (claims.now.blocks ≤ J.blocks job.now) × IsFreshTicket claims.now Kind.First first × (2 ≤ workers) × (first.view.made + workers ≤ 66) }
+            ensures { IfOk result (λ share. IsShareOf (J.gives job.entry.now) claims.entry.now Kind.First share × (share.ticket.view.made + 2 ≡ first.view.made + workers) × (share.ticket.view.back + 2 ≡ first.view.back + workers) × (is_done_view share.ticket.view ≡ true)) }
         { spread(rt, alloc, job, claims, first, workers - 1) },
     );
     let theirs = theirs?;

@@ -1,8 +1,8 @@
 // One worker.
-ghost use Rattle.std.specs.Prelude.{◌≡◌, ℕ, ◌+◌, ◌<◌, ◌≤◌, [], length, None, IfOk, true, All};
-ghost use Rattle.block_claims.specs.Seen.{IsTicketOf, IsWhole};
+ghost use Rattle.std.specs.Prelude.{◌≡◌, ◌≤◌, IfOk, true};
+ghost use Rattle.block_claims.specs.Seen.{IsWhole};
 ghost use Rattle.block_claims.specs.Views.{is_done as is_done_view};
-ghost use Rattle.block_workers.specs.FinishedBlocks.{numbers, IsRight};
+ghost use Rattle.block_workers.specs.Shares.{IsFreshTicket, IsShareOf};
 
 use crate::job::{BlockJob, Finished};
 use block_claims::{ClaimWord, Ticket, draw};
@@ -24,16 +24,11 @@ pub fn work<J: BlockJob>(
     mut ticket: Ticket,
 ) -> Result<Share<J::Output>, NoMemory>
     requires blocks { claims.now.blocks ≤ J.blocks job.now }
-    requires ours { IsTicketOf claims.now ticket }
-    requires nothing_drawn { ticket.view.mine ≡ [] }
-    requires going { ticket.view.last ≡ None }
-    ensures ours { IfOk result (λ share. IsTicketOf claims.now share.ticket) }
-    ensures kind { IfOk result (λ share. share.ticket.view.kind ≡ ticket.view.kind) }
+    requires ticket { IsFreshTicket claims.now ticket.view.kind ticket }
+    ensures share { IfOk result (IsShareOf (J.gives job.now) claims.now ticket.view.kind) }
     ensures made { IfOk result (λ share. share.ticket.view.made ≡ ticket.view.made) }
     ensures back { IfOk result (λ share. share.ticket.view.back ≡ ticket.view.back) }
     ensures done { IfOk result (λ share. is_done_view share.ticket.view ≡ true) }
-    ensures mine { IfOk result (λ share. numbers share.finished.items ≡ share.ticket.view.mine) }
-    ensures right { IfOk result (λ share. All (IsRight claims.now.blocks (J.gives job.now)) share.finished.items) }
     ensures whole { IfOk result (λ share. IsWhole share.ticket.view) }
 {
     let mut finished = Vec::new(alloc);

@@ -1,10 +1,8 @@
-use Rattle.std.proofs.Common.{rules, ◌≡◌, ◌++◌, All, sym, subst}
-use Rattle.std.proofs.lemmas.Result.{IfOk-weaker}
-use Rattle.std.proofs.lemmas.List.Elements.{All-append}
-use Rattle.block_workers.specs.FinishedBlocks.{IsRight}
+use Rattle.block_claims.specs.declared.rule.Kind.TheVariants.{First, Further}
+use Rattle.block_workers.proofs.JoinedShares.{joined_share}
 use Rattle.block_workers.proofs.run.+fn-spread-join+arg3+spread.Goals as goal
+use Rattle.std.proofs.Common.{rules}
 
-pub returns-clause-right : goal.returns-clause-right
-returns-clause-right g t c =
-    let P = IsRight c.args.claims.now.blocks (g.J.BlockJob.gives c.args.job.now) in
-    IfOk-weaker c.joined.result _ _ (λ share is. subst (All P) (sym is) (All-append P c.in_ok-ours.ours.finished.items c.in_ok-theirs.theirs.finished.items (search rules) (search rules))) c.joined.ensures.finished
+pub returns-clause-share : goal.returns-clause-share
+returns-clause-share g t c =
+    joined_share (g.J.BlockJob.gives c.args.job.now) c.args.claims.now First Further c.in_ok-ours.ours c.in_ok-theirs.theirs c.joined.result (search rules) (search rules) c.joined.ensures.ours c.joined.ensures.joined c.joined.ensures.finished
