@@ -1,6 +1,6 @@
 use Rattle.std.proofs.Common.{◌≡◌, ◌+◌, ◌-◌, ◌≤◌, ◌<◌, ℕ, length, refl, ap, ◌∙◌, sym, subst, arith}
 use Rattle.std.proofs.lemmas.List.FromFn.{length-range_with_len}
-use Rattle.overlap_run.specs.Parts.{IsBlockOf, DoMeetWithin, clip_count}
+use Rattle.overlap_run.specs.Parts.{IsBlockOf, DoMeetWithin, targets_of, clip_count}
 use Rattle.overlap_run.proofs.BlockSteps.{block_none}
 use Rattle.overlap_run.proofs.RunSteps.{no_faces}
 use Rattle.overlap_run.proofs.ClipCounts.{clip_count_none, clip_count_more, clip_count_grows, clip_count_fits, targets_are_faces, targets_ascend, targets_are_all}
@@ -40,7 +40,8 @@ clip_face-requires-clause-room g c =
     let b = c.args.b.now in
     let source = c.face_count-source_faces.ensures.accepted.counts.face_limit in
     let target = c.face_count-target_faces.ensures.accepted.counts.face_limit in
-    let tried = ap (length {A = ℕ}) (c.deref.ensures.value ∙ c.in_ok-targets.ensures) in
+    let listed : c.deref.result.now ≡ targets_of a b c.loop-i.i = c.deref.ensures.value ∙ c.in_ok-targets.ensures in
+    let tried = ap (length {A = ℕ}) listed in
     omega (
       arith,
       c.loop-i.invariant.few,
@@ -54,11 +55,12 @@ pub returns-in_err-clip_face-clause-most : goal.returns-in_err-clip_face-clause-
 returns-in_err-clip_face-clause-most g c =
     let a = c.args.a.now in
     let b = c.args.b.now in
+    let listed : c.deref.result.now ≡ targets_of a b c.loop-i.i = c.deref.ensures.value ∙ c.in_ok-targets.ensures in
     omega (
       arith,
       c.loop-i.invariant.ticks,
       c.clip_face.ensures.most,
-      ap (length {A = ℕ}) (c.deref.ensures.value ∙ c.in_ok-targets.ensures),
+      ap (length {A = ℕ}) listed,
       clip_count_more a b c.args.from c.loop-i.i c.requires.from.0 c.loop-i.auto.i,
       clip_count_grows a b c.args.from c.loop-i.i c.args.to (omega (arith, c.loop-i.auto.i)) (omega (arith, c.loop-i-test.true)),
     )
@@ -69,7 +71,8 @@ loop-i-preserved g c =
     let b = c.args.b.now in
     let back : c.loop-i.i + 1 - 1 ≡ c.loop-i.i = omega arith in
     let same = ap (clip_count a b c.args.from) back in
-    let tried = ap (length {A = ℕ}) (c.deref.ensures.value ∙ c.in_ok-targets.ensures) in
+    let listed : c.deref.result.now ≡ targets_of a b c.loop-i.i = c.deref.ensures.value ∙ c.in_ok-targets.ensures in
+    let tried = ap (length {A = ℕ}) listed in
     let more = clip_count_more a b c.args.from c.loop-i.i c.requires.from.0 c.loop-i.auto.i in
     record {
       block = subst (λ (n : ℕ). IsBlockOf a b (DoMeetWithin a b c.args.from n) c.clip_face.new.block) (sym back)
