@@ -72,6 +72,6 @@ fn octants(rt: HostRuntime) {
         panic!(rt; "other than one piece");
     };
     assert_eq!(rt; (piece.a, piece.b), (1, 1));
-    assert_eq!(rt; piece.ring.as_slice(), &[1, 2, 3]);
+    assert!(rt; matches!(piece.ring.as_slice(), [1, 2, 3]));
     assert_eq!(rt; piece.corners.items.len(), 3);
 }
