@@ -10,7 +10,7 @@ use std::alloc::Global;
 use vec_exact::NoMemory;
 
 /// A list of pieces, in whatever form it keeps them. Pieces join at its end.
-pub trait PieceList: Sized {
+pub trait PieceList: Sized + Drop {
     /// It holds these pieces, in this order, and no other.
     ghost holds: { Self → List OnePiece → Type 0 };
 

@@ -9,6 +9,7 @@ use Rattle.vec_exact.specs.declared.RawMesh.{RawMesh}
 use Rattle.cone_laws.specs.Inside.{Meets}
 use Rattle.mesh_check.specs.Mesh.{corners_of}
 use Rattle.clip.specs.Planes.{IsFaceNumber}
+use Rattle.clip.specs.declared.pieces.Piece.{Piece}
 use Rattle.overlap_run.specs.declared.blocks.Block.{Block}
 use Rattle.overlap_run.specs.Pairs.{FacePair, IsEarlier, DoMeet}
 use Rattle.overlap_run.specs.Parts.{DoMeetWithin, IsBlockOf, TakesPair}
@@ -20,11 +21,11 @@ pub record DoMeetAmong (a b : RawMesh) (first i : ℕ) (listed : List ℕ) (p : 
   pub among : (p.source < i) ⊎ ((p.source ≡ i) × Contains listed p.target)
   pub meets : DoMeet a b p
 
-module _ (a b : RawMesh) (first i : ℕ) (at_least : first ≤ i) (positive : 1 ≤ i) where
+module _ {C : Type 0} (Holds : C → List Piece → Type 0) (a b : RawMesh) (first i : ℕ) (at_least : first ≤ i) (positive : 1 ≤ i) where
   -- no target is clipped yet
-  pub face_begins : (block : Block) → IsBlockOf a b (DoMeetWithin a b first (i - 1)) block → IsBlockOf a b (DoMeetAmong a b first i []) block
+  pub face_begins : (block : Block C) → IsBlockOf Holds a b (DoMeetWithin a b first (i - 1)) block → IsBlockOf Holds a b (DoMeetAmong a b first i []) block
   face_begins block h =
-      block_same a b (DoMeetWithin a b first (i - 1)) (DoMeetAmong a b first i [])
+      block_same Holds a b (DoMeetWithin a b first (i - 1)) (DoMeetAmong a b first i [])
       (λ p x. record { from = x.from; among = inl (omega (arith, x.to)); meets = x.meets })
       (λ p x. elim x.among [
         | inl l ↦ record { from = x.from; to = omega (arith, l); meets = x.meets }
@@ -34,13 +35,13 @@ module _ (a b : RawMesh) (first i : ℕ) (at_least : first ≤ i) (positive : 1 
 
   -- one target more
   pub face_more : (targets : List ℕ) (t : ℕ) (j : ℕ) → t < length targets → slice_index targets t ≡ j → IsStrictlyIncreasing targets
-      → (old new : Block) → IsBlockOf a b (DoMeetAmong a b first i (take t targets)) old → TakesPair a b (record { source = i; target = j }) old new
-      → IsBlockOf a b (DoMeetAmong a b first i (take (t + 1) targets)) new
+      → (old new : Block C) → IsBlockOf Holds a b (DoMeetAmong a b first i (take t targets)) old → TakesPair Holds a b (record { source = i; target = j }) old new
+      → IsBlockOf Holds a b (DoMeetAmong a b first i (take (t + 1) targets)) new
   face_more targets t j l is increasing old new h takes =
       let q : FacePair = record { source = i; target = j } in
       let listed : take (t + 1) targets ≡ take t targets ++ j ∷ [] = take_more targets t 0 l ∙ ap (λ (x : ℕ). take t targets ++ x ∷ []) is in
-      subst (λ (xs : List ℕ). IsBlockOf a b (DoMeetAmong a b first i xs) new) (sym listed)
-      (block_takes a b (DoMeetAmong a b first i (take t targets)) (DoMeetAmong a b first i (take t targets ++ j ∷ [])) q
+      subst (λ (xs : List ℕ). IsBlockOf Holds a b (DoMeetAmong a b first i xs) new) (sym listed)
+      (block_takes Holds a b (DoMeetAmong a b first i (take t targets)) (DoMeetAmong a b first i (take t targets ++ j ∷ [])) q
       (λ p x. elim x.among [
         | inl s ↦ inl s
         | inr e ↦ inr (e.0, before_target p.target e.1)
@@ -72,9 +73,9 @@ module _ (a b : RawMesh) (first i : ℕ) (at_least : first ≤ i) (positive : 1 
 
   -- all targets are clipped
   pub face_ends : (targets : List ℕ) (t : ℕ) → length targets ≤ t → ((j : ℕ) → IsFaceNumber b j → Meets (corners_of a i) (corners_of b j) → Contains targets j)
-      → (block : Block) → IsBlockOf a b (DoMeetAmong a b first i (take t targets)) block → IsBlockOf a b (DoMeetWithin a b first i) block
+      → (block : Block C) → IsBlockOf Holds a b (DoMeetAmong a b first i (take t targets)) block → IsBlockOf Holds a b (DoMeetWithin a b first i) block
   face_ends targets t l all block h =
-      block_same a b (DoMeetAmong a b first i (take t targets)) (DoMeetWithin a b first i)
+      block_same Holds a b (DoMeetAmong a b first i (take t targets)) (DoMeetWithin a b first i)
       (λ p x. record { from = x.from; to = elim x.among [ inl s ↦ omega (arith, s) | inr e ↦ omega (arith, e.0) ]; meets = x.meets })
       (λ p x. record { from = x.from; among = among p x; meets = x.meets })
       block h

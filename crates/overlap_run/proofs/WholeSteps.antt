@@ -1,5 +1,6 @@
 -- From all pieces to the overlap.
-use Rattle.std.proofs.Common.{◌≡◌, ℕ, ◌<◌, ◌≤◌, List, length, map, slice_index_or, ap, sym, ◌∙◌, subst, arith}
+use Rattle.std.proofs.Common.{◌≡◌, ℕ, ◌<◌, ◌≤◌, refl, List, length, map, slice_index_or, ap, sym, ◌∙◌, subst, arith}
+use Rattle.std.specs.Prelude.{Result, Err}
 use Rattle.std.specs.List.{All, AllPairs}
 use Rattle.std.proofs.lemmas.List.{length-map}
 use Rattle.std.proofs.Math.ListN.{get_or-map}
@@ -7,14 +8,13 @@ use Rattle.vec_exact.specs.declared.RawMesh.{RawMesh}
 use Rattle.mesh_check.specs.Mesh.{IsAcceptedMesh}
 use Rattle.clip.specs.declared.pieces.Piece.{Piece}
 use Rattle.clip.specs.Overlaps.{OverlapParts, IsBefore, IsSoundPiece, IsSoundOverlap}
-use Rattle.overlap_run.specs.declared.run.Run.{Run}
 use Rattle.overlap_run.specs.Pairs.{FacePair, IsEarlier, DoMeet, IsCountOf, IsPairCount}
-use Rattle.overlap_run.specs.Whole.{pair_of, IsOverlapOf}
-use Rattle.overlap_run.specs.Parts.{DoMeetWithin, ArePiecesOf}
-use Rattle.overlap_run.specs.Runs.{all_pieces, IsRunOf}
-use Rattle.overlap_run.proofs.Exactly.{count_same, pieces_same}
+use Rattle.overlap_run.specs.Whole.{pair_of, IsOverlapOf, HoldsOverlap}
+use Rattle.overlap_run.specs.Parts.{ArePiecesOf}
 use Rattle.overlap_run.proofs.Unique.{exactly_one}
-use Rattle.overlap_run.proofs.RunSteps.{all_faces, any_face}
+
+pub same_error : {A E : Type 0} (e f : E) → ◌≡◌ {A = Result A E} (Err e) (Err f) → e ≡ f
+same_error e f h = grind arith
 
 -- there is one number of pairs with P
 pub one_count : (P : FacePair → Type 0) (m n : ℕ) → IsCountOf P m → IsCountOf P n → m ≡ n
@@ -32,15 +32,6 @@ pieces_ascend pieces h i j d l r =
     subst (IsEarlier (pair_of (slice_index_or pieces i d))) (get_or-map pair_of pieces j d) first
 
 module _ (a b : RawMesh) where
-  -- the number of pieces of a whole run is that of the pairs that meet
-  pub run_count : (run : Run) → IsRunOf a b (length a.faces) run → IsPairCount a b run.count
-  run_count run h = count_same (DoMeetWithin a b 1 (length a.faces)) (DoMeet a b) (any_face a b) (all_faces a b) run.count h.count
-
-  pub run_pieces : (run : Run) (pieces : List Piece) → pieces ≡ all_pieces run.blocks.items → run.count ≤ 8388608 → IsRunOf a b (length a.faces) run → ArePiecesOf a b (DoMeet a b) pieces
-  run_pieces run pieces e few h =
-      subst (ArePiecesOf a b (DoMeet a b)) (sym e)
-      (pieces_same a b (DoMeetWithin a b 1 (length a.faces)) (DoMeet a b) (any_face a b) (all_faces a b) (all_pieces run.blocks.items) (h.listed few))
-
   pub whole_is_sound : (o : OverlapParts) (n : ℕ) → o.faces_a ≡ length a.faces → o.faces_b ≡ length b.faces → IsAcceptedMesh a → IsAcceptedMesh b
       → IsPairCount a b n → n ≤ 8388608 → ArePiecesOf a b (DoMeet a b) o.pieces → IsSoundOverlap o
   whole_is_sound o n e f x y c few h = record {
@@ -53,3 +44,21 @@ module _ (a b : RawMesh) where
 
   pub whole_overlap : (o : OverlapParts) → o.faces_a ≡ length a.faces → o.faces_b ≡ length b.faces → ArePiecesOf a b (DoMeet a b) o.pieces → IsOverlapOf a b o
   whole_overlap o e f h = record { source_faces = e; target_faces = f; pairs = h.pairs; pieces = h.each }
+
+  -- a list of all pieces holds those of the overlap
+  pub list_of_whole : {C : Type 0} (Holds : C → List Piece → Type 0) (list : C) (n : ℕ) → IsAcceptedMesh a → IsAcceptedMesh b → IsPairCount a b n → n ≤ 8388608
+      → (pieces : List Piece) × ArePiecesOf a b (DoMeet a b) pieces × Holds list pieces → HoldsOverlap Holds a b list
+  list_of_whole Holds list n x y c few all =
+      let o : OverlapParts = record { faces_a = length a.faces; faces_b = length b.faces; pieces = all.0 } in
+      (o, whole_overlap o refl refl all.1, whole_is_sound o n refl refl x y c few all.1, all.2)
+
+  -- the pieces of the overlap with the counts of its faces
+  pub as_parts : (faces_a faces_b : ℕ) (list : List Piece) → faces_a ≡ length a.faces → faces_b ≡ length b.faces → HoldsOverlap (λ (l ps : List Piece). l ≡ ps) a b list
+      → IsOverlapOf a b (record { faces_a = faces_a; faces_b = faces_b; pieces = list }) × IsSoundOverlap (record { faces_a = faces_a; faces_b = faces_b; pieces = list })
+  as_parts faces_a faces_b list e f (o, right, sound, held) =
+      let parts : OverlapParts = record { faces_a = faces_a; faces_b = faces_b; pieces = list } in
+      let first : o.faces_a ≡ faces_a = right.source_faces ∙ sym e in
+      let second : o.faces_b ≡ faces_b = right.target_faces ∙ sym f in
+      let third : o.pieces ≡ list = sym held in
+      let same : o ≡ parts = λ k. record { faces_a = first k; faces_b = second k; pieces = third k } in
+      (subst (IsOverlapOf a b) same right, subst IsSoundOverlap same sound)

@@ -21,11 +21,11 @@ pub record ArePiecesOf (a b : RawMesh) (P : FacePair → Type 0) (pieces : List 
   pub each : All (IsPieceOf a b) pieces
   pub sound : All (IsSoundPiece (length a.faces) (length b.faces)) pieces
 
--- the count is that of the pairs with P; their pieces are listed as far as the limit, and past it none is
-pub record IsBlockOf (a b : RawMesh) (P : FacePair → Type 0) (block : Block) : Type 0 where
+-- The count is that of the pairs with P; their pieces are listed as far as the limit, and past it none is. Holds says which pieces a list holds.
+pub record IsBlockOf {C : Type 0} (Holds : C → List Piece → Type 0) (a b : RawMesh) (P : FacePair → Type 0) (block : Block C) : Type 0 where
   pub count : IsCountOf P block.count
-  pub listed : block.count ≤ 8388608 → ArePiecesOf a b P block.pieces
-  pub dropped : 8388608 < block.count → block.pieces ≡ []
+  pub listed : block.count ≤ 8388608 → (pieces : List Piece) × ArePiecesOf a b P pieces × Holds block.pieces pieces
+  pub dropped : 8388608 < block.count → Holds block.pieces []
 
 -- p is the piece of this pair of faces
 pub record IsPieceAt (a b : RawMesh) (q : FacePair) (p : Piece) : Type 0 where
@@ -34,14 +34,20 @@ pub record IsPieceAt (a b : RawMesh) (q : FacePair) (p : Piece) : Type 0 where
   pub sound : IsSoundPiece (length a.faces) (length b.faces) p
 
 -- the block has one pair more, and its piece where it lists pieces
-pub record AddsPiece (a b : RawMesh) (pair : FacePair) (old new : Block) : Type 0 where
+pub record AddsPiece {C : Type 0} (Holds : C → List Piece → Type 0) (a b : RawMesh) (pair : FacePair) (old new : Block C) : Type 0 where
   pub count : new.count ≡ old.count + 1
-  pub listed : new.count ≤ 8388608 → (p : Piece) × IsPieceAt a b pair p × (new.pieces ≡ old.pieces ++ p ∷ [])
-  pub dropped : 8388608 < new.count → new.pieces ≡ []
+  pub listed : new.count ≤ 8388608 → (p : Piece) × IsPieceAt a b pair p × ((pieces : List Piece) → Holds old.pieces pieces → Holds new.pieces (pieces ++ p ∷ []))
+  pub dropped : 8388608 < new.count → Holds new.pieces []
 
 -- the block gains the pair where it meets, and stays as it is where it does not
-abbrev pub TakesPair : RawMesh → RawMesh → FacePair → Block → Block → Type 0
-TakesPair a b pair old new = (DoMeet a b pair × AddsPiece a b pair old new) ⊎ ((DoMeet a b pair → ⊥) × (new ≡ old))
+abbrev pub TakesPair : {C : Type 0} → (C → List Piece → Type 0) → RawMesh → RawMesh → FacePair → Block C → Block C → Type 0
+TakesPair Holds a b pair old new = (DoMeet a b pair × AddsPiece Holds a b pair old new) ⊎ ((DoMeet a b pair → ⊥) × (new ≡ old))
+
+-- the block has the pairs of another one too, and its pieces behind its own where it lists pieces
+pub record TakesBlock {C : Type 0} (Holds : C → List Piece → Type 0) (old more new : Block C) : Type 0 where
+  pub count : new.count ≡ old.count + more.count
+  pub listed : new.count ≤ 8388608 → (pieces others : List Piece) → Holds old.pieces pieces → Holds more.pieces others → Holds new.pieces (pieces ++ others)
+  pub dropped : 8388608 < new.count → Holds new.pieces []
 
 -- the target faces that are clipped with face i of a
 abbrev pub targets_of : RawMesh → RawMesh → ℕ → List ℕ

@@ -4,7 +4,7 @@ use Rattle.vec_exact.specs.declared.RawMesh.{RawMesh}
 use Rattle.cone_laws.specs.Ring.{planes_of_pair, listed, IsRing}
 use Rattle.mesh_check.specs.Mesh.{corners_of}
 use Rattle.clip.specs.declared.pieces.Piece.{Piece}
-use Rattle.clip.specs.Overlaps.{OverlapParts}
+use Rattle.clip.specs.Overlaps.{OverlapParts, IsSoundOverlap}
 use Rattle.piece_measure.specs.Grid.{grid_corners_of}
 use Rattle.overlap_run.specs.declared.faults.RunFault.{RunFault}
 use Rattle.overlap_run.specs.declared.faults.RunFault.TheVariants.{TooManyPieces, NoMemory}
@@ -26,6 +26,10 @@ pub record IsOverlapOf (a b : RawMesh) (o : OverlapParts) : Type 0 where
   -- there is a piece for each pair of faces that meet, in order
   pub pairs : IsMeetingPairs a b (map pair_of o.pieces)
   pub pieces : All (IsPieceOf a b) o.pieces
+
+-- the list holds the pieces of the overlap of a and b
+abbrev pub HoldsOverlap : {C : Type 0} → (C → List Piece → Type 0) → RawMesh → RawMesh → C → Type 0
+HoldsOverlap Holds a b list = (o : OverlapParts) × IsOverlapOf a b o × IsSoundOverlap o × Holds list o.pieces
 
 -- two meshes have at most one overlap
 abbrev pub OneOverlap : Type 0

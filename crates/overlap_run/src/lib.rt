@@ -15,4 +15,4 @@ pub use blocks::{Block, clip_block};
 pub use faults::RunFault;
 pub use gates::{Gate, OpenGate};
 pub use laws::{law_one_list_of_pairs, law_one_overlap};
-pub use run::overlap;
+pub use run::{overlap, overlap_list};

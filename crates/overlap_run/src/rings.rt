@@ -6,10 +6,11 @@ ghost use Rattle.cone_laws.specs.Ring.{listed, IsRing};
 ghost use Rattle.mesh_check.specs.Mesh.{corners_of};
 ghost use Rattle.clip.specs.Planes.{AreNumbers, EachIs37, IsFaceNumber};
 ghost use Rattle.piece_measure.specs.Grid.{grid_corners_of};
+ghost use Rattle.clip.specs.Overlaps.{HasSmallNumbers};
 ghost use Rattle.overlap_run.specs.Parts.{IsPieceAt};
 
 use clip::{Corners, Piece, PlaneList, Ring, corner, planes};
-use mesh_check::Mesh;
+use mesh_check::{Mesh, face_count};
 use piece_measure::grid_corner;
 use smallvec::SmallVec;
 use std::alloc::Global;
@@ -42,8 +43,12 @@ pub fn piece_of_ring(
     requires source { IsFaceNumber a.now i }
     requires target { IsFaceNumber b.now j }
     requires ring { IsRing (corners_of a.now i) (corners_of b.now j) ring.items }
-    ensures { IfOk result (IsPieceAt a.now b.now (record { source = i; target = j })) }
+    ensures piece { IfOk result (IsPieceAt a.now b.now (record { source = i; target = j })) }
+    ensures small { IfOk result HasSmallNumbers }
 {
+    // The counts say that the face numbers are small.
+    let _source_faces = face_count(a);
+    let _target_faces = face_count(b);
     let corners = grid_corners(alloc, &planes(a, i, b, j), &ring)?;
     Ok(Piece {
         a: i,

@@ -1,16 +1,14 @@
 // The overlap of two meshes, block by block.
-ghost use Rattle.std.specs.Prelude.{◌≡◌, ◌≢◌, ℕ, ◌+◌, ◌<◌, ◌≤◌, ◌^◌, ◌++◌, ◌∷◌, [], IfOk, IfErr, IsErr, OnOk, Err, length};
-ghost use Rattle.std.specs.List.{flat_map};
+ghost use Rattle.std.specs.Prelude.{◌≡◌, ◌≢◌, ℕ, ◌+◌, ◌<◌, ◌≤◌, ◌^◌, IfOk, IfErr, IsErr, OnOk, Err, length};
 ghost use Rattle.cell_index.specs.IndexOf.{IsIndexOf};
-ghost use Rattle.overlap_run.specs.Pairs.{IsPairCount};
-ghost use Rattle.overlap_run.specs.Whole.{IsOverlapOf, IsRefusalOf};
-ghost use Rattle.overlap_run.specs.Parts.{clip_count};
-ghost use Rattle.overlap_run.specs.Runs.{IsRunOf};
+ghost use Rattle.overlap_run.specs.Pairs.{DoMeet, IsPairCount};
+ghost use Rattle.overlap_run.specs.Whole.{HoldsOverlap, IsOverlapOf, IsRefusalOf};
+ghost use Rattle.overlap_run.specs.Parts.{DoMeetWithin, IsBlockOf, TakesBlock, clip_count};
 
 use crate::blocks::{GREATEST_COUNT, clip_block};
 use crate::{Block, Gate, RunFault};
 use cell_index::{Index, build};
-use clip::{Overlap, Pieces};
+use clip::{Overlap, PieceList, Pieces};
 use mesh_check::{Mesh, face_count};
 use std::alloc::Global;
 use std::sync::ledger::Ledger;
@@ -20,47 +18,43 @@ use vec_exact::{NoMemory, Steps};
 // Block s, from 0, holds the source faces from 64 s + 1 to 64 s + 64, as far as the mesh has them.
 const BLOCK_SIZE: u32 = 64;
 
-// The blocks so far, in order of their numbers: how many pieces they have, and the pieces of each.
-// Past the limit no pieces are kept.
-#[derive(Drop)]
-pub struct Run {
-    pub count: u64,
-    pub blocks: Vec<Pieces>,
-}
-
-// One block more, the next one. Past the limit all pieces are dropped.
-fn take_block(run: &mut Run, block: Block) -> Result<(), NoMemory>
+// Puts the pieces of one block more behind those of the blocks so far. Past the limit all pieces are
+// dropped, and the counts go on.
+fn take_block<C: PieceList>(
+    alloc: Global,
+    run: &mut Block<C>,
+    block: Block<C>,
+) -> Result<(), NoMemory>
     requires room { run.old.count + block.count < 2 ^ 64 }
-    ensures count { OnOk result (run.new.count ≡ run.old.count + block.count) }
-    ensures pieces { OnOk result (run.new.count ≤ 8388608 → run.new.blocks.items ≡ run.old.blocks.items ++ block.pieces ∷ []) }
+    ensures { OnOk result (TakesBlock C.holds run.old block run.new) }
 {
     run.count += block.count;
     if run.count > GREATEST_COUNT {
-        run.blocks.clear();
+        run.pieces = C::none(alloc);
         return Ok(());
     }
-    run.blocks.push(block.pieces)?;
+    run.pieces.append(block.pieces)?;
     Ok(())
 }
 
-// All blocks, ascending, on the calling thread.
-fn ascending<G: Gate, L: Ledger>(
+// All blocks, ascending, on the calling thread, as one.
+fn ascending<C: PieceList, G: Gate, L: Ledger>(
     alloc: Global,
     a: &Mesh,
     b: &Mesh,
     index: &Index,
     gate: &G,
     steps: &mut Steps<L>,
-) -> Result<Run, NoMemory>
+) -> Result<Block<C>, NoMemory>
     requires index { IsIndexOf index.now b.now }
-    ensures run { IfOk result (IsRunOf a.now b.now (length a.now.faces)) }
+    ensures run { IfOk result (IsBlockOf C.holds a.now b.now (DoMeet a.now b.now)) }
     ensures ticks { OnOk result (steps.new ≡ steps.old + clip_count a.now b.now 1 (length a.now.faces)) }
     ensures most { steps.new ≤ steps.old + clip_count a.now b.now 1 (length a.now.faces) }
 {
     let faces = face_count(a);
-    let mut run = Run {
+    let mut run = Block {
         count: 0,
-        blocks: Vec::new(alloc),
+        pieces: C::none(alloc),
     };
     for s in 0..faces.div_ceil(BLOCK_SIZE) {
         let from = BLOCK_SIZE * s + 1;
@@ -68,21 +62,42 @@ fn ascending<G: Gate, L: Ledger>(
         gate.enter(s);
         let block = clip_block(alloc, a, b, index, from, to, steps)?;
         gate.leave(s);
-        take_block(&mut run, block)?;
+        take_block(alloc, &mut run, block)?;
     }
     Ok(run)
 }
 
-// The pieces of all blocks, one block after another.
-fn joined(alloc: Global, run: Run) -> Result<Pieces, NoMemory>
-    requires { run.count ≤ 8388608 }
-    ensures { IfOk result (λ pieces. pieces ≡ flat_map (λ block. block) run.blocks.items) }
+/// The pieces of the overlap of `a` and `b`, as `overlap` gives them, in a list of any form; faults
+/// and steps are those of `overlap`.
+pub fn overlap_list<C: PieceList, G: Gate + Sync, L: Ledger>(
+    rt: &impl Threads,
+    alloc: Global,
+    a: &Mesh,
+    b: &Mesh,
+    workers: u32,
+    gate: &G,
+    steps: &mut Steps<L>,
+) -> Result<C, RunFault>
+    requires workers { (1 ≤ workers) × (workers ≤ 64) }
+    ensures overlap { IfOk result (HoldsOverlap C.holds a.now b.now) }
+    ensures refusal { IfErr result (IsRefusalOf a.now b.now) }
+    // where more pairs meet than an overlap may have, no overlap comes
+    ensures past { (n : ℕ) → IsPairCount a.now b.now n → 8388608 < n → IsErr result }
+    // and where no more do, no number comes
+    ensures within { (n m : ℕ) → IsPairCount a.now b.now n → n ≤ 8388608 → result ≢ Err (RunFault.TooManyPieces m) }
+    // one worker takes a step for each pair that is clipped
+    ensures ticks { workers ≡ 1 → result ≢ Err RunFault.NoMemory → steps.new ≡ steps.old + clip_count a.now b.now 1 (length a.now.faces) }
+    ensures most { workers ≡ 1 → steps.new ≤ steps.old + clip_count a.now b.now 1 (length a.now.faces) }
 {
-    let mut items = Vec::with_capacity(alloc, run.count as usize)?;
-    for mut block in run.blocks {
-        items.append(&mut block.items)?;
+    // The counts say that the two meshes are within the limits of an overlap.
+    let _source_faces = face_count(a);
+    let _target_faces = face_count(b);
+    let index = build(alloc, b)?;
+    let run = ascending(alloc, a, b, &index, gate, steps)?;
+    if run.count > GREATEST_COUNT {
+        return Err(RunFault::TooManyPieces(run.count));
     }
-    Ok(Pieces { items })
+    Ok(run.pieces)
 }
 
 /// The overlap of `a` and `b`: all pairs of faces that meet, in ascending order of source face and
@@ -114,12 +129,10 @@ pub fn overlap<G: Gate + Sync, L: Ledger>(
     ensures ticks { workers ≡ 1 → result ≢ Err RunFault.NoMemory → steps.new ≡ steps.old + clip_count a.now b.now 1 (length a.now.faces) }
     ensures most { workers ≡ 1 → steps.new ≤ steps.old + clip_count a.now b.now 1 (length a.now.faces) }
 {
-    let index = build(alloc, b)?;
-    let run = ascending(alloc, a, b, &index, gate, steps)?;
-    if run.count > GREATEST_COUNT {
-        return Err(RunFault::TooManyPieces(run.count));
-    }
-    let pieces = joined(alloc, run)?;
+    let pieces: Pieces = match overlap_list(rt, alloc, a, b, workers, gate, steps) {
+        Ok(pieces) => pieces,
+        Err(fault) => return Err(fault),
+    };
     Ok(Overlap {
         faces_a: face_count(a),
         faces_b: face_count(b),

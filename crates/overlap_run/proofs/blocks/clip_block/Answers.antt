@@ -13,7 +13,7 @@ loop-i-init g c =
     let b = c.args.b.now in
     let none : c.args.from - 1 < c.args.from = omega (arith, c.requires.from.0) in
     record {
-      block = block_none a b _ (no_faces a b c.args.from (c.args.from - 1) none) _ refl c.new.ensures.items;
+      block = block_none g.C.PieceList.holds a b _ (no_faces a b c.args.from (c.args.from - 1) none) _ refl c.none.ensures;
       few = omega (arith, clip_count_none a b c.args.from (c.args.from - 1) none);
       ticks = omega (arith, clip_count_none a b c.args.from (c.args.from - 1) none);
     }
@@ -77,7 +77,7 @@ loop-i-preserved g c =
     let tried = ap (length {A = ℕ}) (c.deref.ensures.value ∙ found_targets c.args.a.now c.args.b.now c.loop-i.i c.find_candidates.new.found.items c.in_ok-find_candidates.ensures.ascending (c.in_ok-find_candidates.ensures.candidates c.args.b.now c.requires.index)) in
     let more = clip_count_more a b c.args.from c.loop-i.i c.requires.from.0 c.loop-i.auto.i in
     record {
-      block = subst (λ (n : ℕ). IsBlockOf a b (DoMeetWithin a b c.args.from n) c.clip_face.new.block) (sym back)
+      block = subst (λ (n : ℕ). IsBlockOf g.C.PieceList.holds a b (DoMeetWithin a b c.args.from n) c.clip_face.new.block) (sym back)
           (c.in_ok-clip_face.ensures.block c.args.from c.loop-i.auto.i c.loop-i.invariant.block);
       few = omega (arith, c.loop-i.invariant.few, c.in_ok-clip_face.ensures.few, same, tried, more);
       ticks = omega (arith, c.loop-i.invariant.ticks, c.in_ok-clip_face.ensures.ticks, same, tried, more);
@@ -88,4 +88,4 @@ returns-clause-block g c =
     let a = c.args.a.now in
     let b = c.args.b.now in
     let last : c.loop-i.i - 1 ≡ c.args.to = omega (arith, c.loop-i-test.false, c.loop-i.auto.i-end c.requires.from.1) in
-    subst (λ (n : ℕ). IsBlockOf a b (DoMeetWithin a b c.args.from n) c.loop-i.block) last c.loop-i.invariant.block
+    subst (λ (n : ℕ). IsBlockOf g.C.PieceList.holds a b (DoMeetWithin a b c.args.from n) c.loop-i.block) last c.loop-i.invariant.block

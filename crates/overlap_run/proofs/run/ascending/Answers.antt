@@ -1,10 +1,9 @@
 use Rattle.std.proofs.Common.{◌≡◌, ◌+◌, ◌-◌, ◌*◌, ◌≤◌, ◌<◌, ℕ, min, length, refl, ap, ◌∙◌, sym, subst, arith}
 use Rattle.std.specs.Int.{div_ceil}
 use Rattle.vec_exact.specs.declared.RawMesh.{RawMesh}
-use Rattle.overlap_run.specs.declared.run.Run.{Run}
 use Rattle.overlap_run.specs.Parts.{IsBlockOf, DoMeetWithin, clip_count}
-use Rattle.overlap_run.specs.Runs.{IsRunOf}
-use Rattle.overlap_run.proofs.RunSteps.{run_none, run_more}
+use Rattle.overlap_run.proofs.RunSteps.{no_faces, run_more, whole_block}
+use Rattle.overlap_run.proofs.BlockSteps.{block_none}
 use Rattle.overlap_run.proofs.ClipCounts.{clip_count_none, clip_count_join, clip_count_grows, clip_count_fits}
 use Rattle.overlap_run.proofs.run.ascending.Goals as goal
 
@@ -13,9 +12,8 @@ loop-s-init g c =
     let a = c.args.a.now in
     let b = c.args.b.now in
     let none : min c.face_count-faces.result 0 ≡ 0 = omega arith in
-    let start : Run = record { count = 0; blocks = c.new.result } in
     record {
-      run = subst (λ (n : ℕ). IsRunOf a b n start) (sym none) (run_none a b start refl c.new.ensures.items);
+      run = block_none g.C.PieceList.holds a b _ (no_faces a b 1 (min c.face_count-faces.result 0) (omega (arith, none))) _ refl c.none.ensures;
       few = omega arith;
       ticks = omega (arith, ap (clip_count a b 1) none, clip_count_none a b 1 0 (omega arith));
     }
@@ -81,11 +79,18 @@ loop-s-preserved g c =
     let ends = block_ends faces c.loop-s.s to c.div_ceil-s-end.result c.loop-s-test.true c.div_ceil-s-end.ensures c.min-to.ensures in
     let before = min faces (64 * c.loop-s.s) in
     let next = ap (clip_count a b 1) ends.last in
-    let block = subst (λ (n : ℕ). IsBlockOf a b (DoMeetWithin a b (n + 1) to) c.in_ok-block.block) (sym ends.before) c.in_ok-block.ensures.block in
+    let block = subst (λ (n : ℕ). IsBlockOf g.C.PieceList.holds a b (DoMeetWithin a b (n + 1) to) c.in_ok-block.block) (sym ends.before) c.in_ok-block.ensures.block in
     record {
-      run = subst (λ (n : ℕ). IsRunOf a b n c.take_block.new.run) ends.last
-          (run_more a b before to (omega (arith, ends.before, ends.later)) c.loop-s.run c.take_block.new.run c.in_ok-block.block c.loop-s.invariant.run block
-          c.in_ok-take_block.ensures.count c.in_ok-take_block.ensures.pieces);
+      run = subst (λ (n : ℕ). IsBlockOf g.C.PieceList.holds a b (DoMeetWithin a b 1 n) c.take_block.new.run) ends.last
+          (run_more g.C.PieceList.holds a b before to (omega (arith, ends.before, ends.later)) c.loop-s.run c.in_ok-block.block c.take_block.new.run c.loop-s.invariant.run block c.in_ok-take_block.ensures);
       few = omega (arith, c.loop-s.invariant.few, c.in_ok-block.ensures.few, c.in_ok-take_block.ensures.count, clipped a b faces c.loop-s.s to ends, next);
       ticks = omega (arith, c.loop-s.invariant.ticks, c.in_ok-block.ensures.ticks, clipped a b faces c.loop-s.s to ends, next);
     }
+
+pub returns-clause-run : goal.returns-clause-run
+returns-clause-run g c =
+    let a = c.args.a.now in
+    let b = c.args.b.now in
+    let faces = c.face_count-faces.result in
+    let all : min faces (64 * c.loop-s.s) ≡ length a.faces = omega (arith, c.loop-s-test.false, c.div_ceil-s-end.ensures, c.face_count-faces.ensures.count) in
+    whole_block g.C.PieceList.holds a b c.loop-s.run (subst (λ (n : ℕ). IsBlockOf g.C.PieceList.holds a b (DoMeetWithin a b 1 n) c.loop-s.run) all c.loop-s.invariant.run)
