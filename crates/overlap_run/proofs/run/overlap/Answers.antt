@@ -1,4 +1,4 @@
-use Rattle.std.proofs.Common.{◌≡◌, ℕ, arith}
+use Rattle.std.proofs.Common.{arith}
 use Rattle.overlap_run.specs.Pairs.{DoMeet}
 use Rattle.overlap_run.proofs.WholeSteps.{one_count, run_count, run_pieces, whole_is_sound, whole_overlap}
 use Rattle.overlap_run.proofs.run.overlap.Goals as goal
