@@ -1,7 +1,6 @@
 -- How a block of pieces grows.
-use Rattle.std.proofs.Common.{◌≡◌, ℕ, ◌+◌, ◌<◌, ◌≤◌, ◌⊎◌, inl, inr, List, [], ◌∷◌, ◌++◌, length, refl, ap, sym, ◌∙◌, subst, arith}
+use Rattle.std.proofs.Common.{◌≡◌, ◌⊎◌, inl, inr, [], ◌∷◌, sym, subst, arith}
 use Rattle.vec_exact.specs.declared.RawMesh.{RawMesh}
-use Rattle.clip.specs.declared.pieces.Piece.{Piece}
 use Rattle.overlap_run.specs.declared.blocks.Block.{Block}
 use Rattle.overlap_run.specs.Pairs.{FacePair, IsEarlier, DoMeet, IsCountOf}
 use Rattle.overlap_run.specs.Parts.{ArePiecesOf, IsBlockOf, AddsPiece, TakesPair, TakesBlock}

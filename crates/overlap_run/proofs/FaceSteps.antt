@@ -1,6 +1,6 @@
 -- How a block grows by the pairs of one source face.
-use Rattle.std.proofs.Common.{◌≡◌, ℕ, suc, ◌+◌, ◌-◌, ◌<◌, ◌≤◌, ◌⊎◌, inl, inr, List, [], ◌∷◌, ◌++◌, length, take, slice_index, slice_index_or, ap, ap₂, sym, ◌∙◌, subst, arith}
-use Rattle.std.specs.List.{All, AllPairs, Contains}
+use Rattle.std.proofs.Common.{◌≡◌, ℕ, ◌+◌, ◌-◌, ◌<◌, ◌≤◌, ◌⊎◌, inl, inr, List, [], ◌∷◌, ◌++◌, length, take, slice_index, slice_index_or, ap, sym, ◌∙◌, subst, arith}
+use Rattle.std.specs.List.{Contains}
 use Rattle.std.specs.List.Sorted.{IsStrictlyIncreasing}
 use Rattle.std.proofs.lemmas.List.{take_more, take_all, get_or-take, get_or_default, length-take}
 use Rattle.std.proofs.lemmas.List.Elements.{Contains-append_left, Contains-push, Contains-push_cases}
@@ -11,7 +11,7 @@ use Rattle.mesh_check.specs.Mesh.{corners_of}
 use Rattle.clip.specs.Planes.{IsFaceNumber}
 use Rattle.clip.specs.declared.pieces.Piece.{Piece}
 use Rattle.overlap_run.specs.declared.blocks.Block.{Block}
-use Rattle.overlap_run.specs.Pairs.{FacePair, IsEarlier, DoMeet}
+use Rattle.overlap_run.specs.Pairs.{FacePair, DoMeet}
 use Rattle.overlap_run.specs.Parts.{DoMeetWithin, IsBlockOf, TakesPair}
 use Rattle.overlap_run.proofs.BlockSteps.{block_same, block_takes}
 

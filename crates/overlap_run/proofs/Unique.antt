@@ -1,6 +1,6 @@
 -- That meetings and overlaps are determined by the two meshes.
-use Rattle.std.proofs.Common.{◌≡◌, ℕ, suc, ◌<◌, ◌⊎◌, inl, inr, List, [], ◌∷◌, length, map, refl, ap, ap₂, sym, ◌∙◌, subst, arith}
-use Rattle.std.specs.List.{All, AllPairs, Contains}
+use Rattle.std.proofs.Common.{◌≡◌, ℕ, inl, inr, List, [], ◌∷◌, length, map, refl, ap, ap₂, sym, ◌∙◌, subst, arith}
+use Rattle.std.specs.List.{All}
 use Rattle.std.proofs.lemmas.List.Elements.{All-contains, All-head, All-tail}
 use Rattle.vec_exact.specs.declared.RawMesh.{RawMesh}
 use Rattle.cone_laws.specs.Ring.{planes_of_pair, listed, IsRing}
@@ -9,7 +9,7 @@ use Rattle.mesh_check.specs.Mesh.{corners_of}
 use Rattle.clip.specs.declared.pieces.Piece.{Piece}
 use Rattle.piece_measure.specs.Grid.{grid_corners_of}
 use Rattle.overlap_run.specs.Pairs.{FacePair, IsEarlier, AreExactly, OneListOfPairs}
-use Rattle.overlap_run.specs.Whole.{pair_of, IsPieceOf, IsOverlapOf, OneOverlap}
+use Rattle.overlap_run.specs.Whole.{pair_of, IsPieceOf, OneOverlap}
 use Rattle.overlap_run.proofs.Ascending.{same_members}
 
 pub earlier_one_way : (p q : FacePair) → IsEarlier p q → IsEarlier q p → ⊥

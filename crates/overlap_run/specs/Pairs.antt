@@ -1,5 +1,5 @@
 -- Pairs of faces of two meshes that meet. Source: our own.
-use Rattle.std.specs.Prelude.{◌≡◌, ℕ, ◌<◌, ◌≤◌, ◌⊎◌, List, length, All, AllPairs, Contains}
+use Rattle.std.specs.Prelude.{◌≡◌, ℕ, ◌<◌, ◌⊎◌, List, length, All, AllPairs, Contains}
 use Rattle.vec_exact.specs.declared.RawMesh.{RawMesh}
 use Rattle.cone_laws.specs.Inside.{Meets}
 use Rattle.mesh_check.specs.Mesh.{corners_of}

@@ -1,6 +1,6 @@
 -- Parts of an overlap: some of its pieces, and how many there are. Source: our own.
 use Rattle.std.specs.Prelude.{◌≡◌, ℕ, ◌+◌, ◌-◌, ◌<◌, ◌≤◌, ◌⊎◌, List, [], ◌∷◌, ◌++◌, length, map, All}
-use Rattle.std.specs.List.{flat_map, range_with_len, sum_by}
+use Rattle.std.specs.List.{range_with_len, sum_by}
 use Rattle.vec_exact.specs.declared.RawMesh.{RawMesh}
 use Rattle.cell_index.specs.CandidateList.{candidates_of}
 use Rattle.clip.specs.declared.pieces.Piece.{Piece}

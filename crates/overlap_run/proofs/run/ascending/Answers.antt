@@ -1,4 +1,4 @@
-use Rattle.std.proofs.Common.{◌≡◌, ◌+◌, ◌-◌, ◌*◌, ◌≤◌, ◌<◌, ℕ, min, length, refl, ap, ◌∙◌, sym, subst, arith}
+use Rattle.std.proofs.Common.{◌≡◌, ◌+◌, ◌*◌, ◌≤◌, ◌<◌, ℕ, min, length, refl, ap, sym, subst, arith}
 use Rattle.std.specs.Int.{div_ceil}
 use Rattle.vec_exact.specs.declared.RawMesh.{RawMesh}
 use Rattle.overlap_run.specs.Parts.{IsBlockOf, DoMeetWithin, clip_count}
