@@ -1,9 +1,10 @@
 -- How a block of pieces grows.
-use Rattle.std.proofs.Common.{◌≡◌, ◌⊎◌, inl, inr, [], ◌∷◌, sym, subst, arith}
+use Rattle.std.proofs.Common.{◌≡◌, ◌⊎◌, inl, inr, List, [], ◌∷◌, ◌++◌, sym, subst, arith}
 use Rattle.vec_exact.specs.declared.RawMesh.{RawMesh}
+use Rattle.clip.specs.declared.pieces.Piece.{Piece}
 use Rattle.overlap_run.specs.declared.blocks.Block.{Block}
 use Rattle.overlap_run.specs.Pairs.{FacePair, IsEarlier, DoMeet, IsCountOf}
-use Rattle.overlap_run.specs.Parts.{ArePiecesOf, IsBlockOf, AddsPiece, TakesPair, TakesBlock}
+use Rattle.overlap_run.specs.Parts.{IsBlockOf, AddsPiece, TakesPair, TakesBlock}
 use Rattle.overlap_run.proofs.Exactly.{count_none, count_single, count_same, count_join, pieces_none, pieces_single, pieces_same, pieces_join}
 
 module _ {C : Type 0} (Holds : C → List Piece → Type 0) (a b : RawMesh) where

@@ -1,5 +1,5 @@
 -- How a run grows by blocks, one after another.
-use Rattle.std.proofs.Common.{◌≡◌, ℕ, ◌+◌, ◌-◌, ◌<◌, ◌≤◌, ◌⊎◌, inl, inr, List, [], ◌∷◌, ◌++◌, length, map, refl, ap, sym, ◌∙◌, subst, arith}
+use Rattle.std.proofs.Common.{ℕ, ◌+◌, ◌<◌, ◌≤◌, ◌⊎◌, inl, inr, List, length, arith}
 use Rattle.vec_exact.specs.declared.RawMesh.{RawMesh}
 use Rattle.clip.specs.declared.pieces.Piece.{Piece}
 use Rattle.overlap_run.specs.declared.blocks.Block.{Block}

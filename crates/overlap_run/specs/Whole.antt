@@ -1,5 +1,5 @@
 -- The overlap of two meshes. Source: our own.
-use Rattle.std.specs.Prelude.{◌≡◌, ◌<◌, length, map, All}
+use Rattle.std.specs.Prelude.{◌≡◌, ◌<◌, List, length, map, All}
 use Rattle.vec_exact.specs.declared.RawMesh.{RawMesh}
 use Rattle.cone_laws.specs.Ring.{planes_of_pair, listed, IsRing}
 use Rattle.mesh_check.specs.Mesh.{corners_of}

@@ -1,4 +1,4 @@
-use Rattle.std.proofs.Common.{All, List, Contains, ◌≡◌, ◌+◌, ◌-◌, ◌≤◌, ◌<◌, ℕ, length, refl, ap, ◌∙◌, sym, subst, arith}
+use Rattle.std.proofs.Common.{All, List, Contains, ◌≡◌, ◌+◌, ◌-◌, ◌<◌, ℕ, length, refl, ap, ◌∙◌, sym, subst, arith}
 use Rattle.clip.specs.Planes.{IsFaceNumber}
 use Rattle.overlap_run.specs.Parts.{IsBlockOf, DoMeetWithin, clip_count}
 use Rattle.overlap_run.proofs.BlockSteps.{block_none}
