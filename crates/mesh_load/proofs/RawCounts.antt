@@ -78,6 +78,6 @@ some_faces file vars h =
     let s = value_ok (blocks_in file r.0) (λ blocks. Ok (record { coord = p.0; nodes = q.0; blocks = blocks; faces = sum_by (λ (b : BlockVar). b.faces) blocks })) vars r.2 in
     let here : MeshVars = record { coord = p.0; nodes = q.0; blocks = s.0; faces = sum_by (λ (b : BlockVar). b.faces) s.0 } in
     let same : here ≡ vars = ok_same here vars s.2 in
-    let blocks : s.0 ≡ vars.blocks = ap (λ (v : MeshVars). v.blocks) same in
+    let blocks : s.0 ≡ vars.blocks = ap {x = here} (λ (v : MeshVars). v.blocks) same in
     let all : All (IsBlockVar file) s.0 = subst (λ (l : List BlockVar). All (IsBlockVar file) l) (sym blocks) are.blocks in
     omega (arith, last_face file r.0 s.0 (some_blocks file r.0 r.1) s.1 all, ap (λ (v : MeshVars). v.faces) same)

@@ -4,6 +4,8 @@
 mod laws;
 mod loading;
 mod refusal;
+#[cfg(test)]
+mod tests;
 mod values;
 
 use exodus_mesh::NameFault;
