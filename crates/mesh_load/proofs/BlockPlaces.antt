@@ -1,5 +1,5 @@
 -- The places of blocks, and lists of numbers that grow.
-use Rattle.std.proofs.Common.{◌≡◌, ℕ, ◌+◌, ◌<◌, ◌≤◌, ℤ, List, [], ◌∷◌, ◌++◌, map, All, take, length, get_or, refl, sym, ap, ap₂, ◌∙◌, arith}
+use Rattle.std.proofs.Common.{◌≡◌, ℕ, ◌+◌, ◌<◌, List, [], ◌∷◌, ◌++◌, map, All, take, length, get_or, refl, ap, ◌∙◌, arith}
 use Rattle.std.specs.List.{sum_by}
 use Rattle.std.proofs.lemmas.List.{take_more, map-append}
 use Rattle.std.proofs.lemmas.List.Elements.{All-map}
@@ -8,9 +8,6 @@ use Rattle.nc_format.specs.declared.NcFile.{NcFile}
 use Rattle.exodus_mesh.specs.declared.vars.BlockVar.{BlockVar}
 use Rattle.exodus_mesh.specs.Found.{IsBlockVar}
 use Rattle.mesh_load.specs.Places.{IsSomeIntVar}
-
-
-
 
 pub block_places : (file : NcFile) (blocks : List BlockVar) → All (IsBlockVar file) blocks → All (IsSomeIntVar file) (map (λ (b : BlockVar). b.var) blocks)
 block_places file blocks all = All-map (IsSomeIntVar file) (λ (b : BlockVar). b.var) blocks (λ k d lt. let b = get_or blocks k d in record { lens = b.faces ∷ b.width ∷ []; var_is = all k d lt })

@@ -1,5 +1,5 @@
 -- Some bytes of the length of the file that begin with the first bytes, whatever is told of the folder.
-use Rattle.std.proofs.Common.{◌≡◌, ℕ, ◌+◌, ◌-◌, ◌≤◌, List, ◌++◌, length, replicate, subst, sym, arith, length-append}
+use Rattle.std.proofs.Common.{◌≡◌, ℕ, ◌-◌, List, ◌++◌, length, replicate, subst, arith, length-append}
 use Rattle.std.proofs.lemmas.List.{length-replicate}
 use Rattle.nc_format.specs.Header.{IsHeader}
 use Rattle.nc_format.proofs.Prefix.{prefix_header}

@@ -1,5 +1,5 @@
 -- The numbers of variables that were loaded.
-use Rattle.std.proofs.Common.{◌≡◌, ℕ, ◌+◌, ◌*◌, ◌≤◌, ℤ, true, List, length, Option, Some, None, IsSomeAnd, slice_get, Result, Ok, Err, refl, sym, ap, subst, ◌∙◌, arith}
+use Rattle.std.proofs.Common.{◌≡◌, ℕ, ◌+◌, ◌*◌, ◌≤◌, ℤ, true, List, length, Option, Some, IsSomeAnd, slice_get, Result, Ok, Err, sym, ap, subst, ◌∙◌}
 use Rattle.std.specs.Prelude.{IfOk, OnOk}
 use Rattle.nc_format.specs.declared.NcFile.{NcFile}
 use Rattle.nc_format.specs.declared.NcVar.{NcVar}
@@ -7,7 +7,6 @@ use Rattle.nc_format.specs.Header.{IsHeader}
 use Rattle.nc_format.specs.Numbers.{is_int, numbers_in, gathered}
 use Rattle.remap_io.specs.Folder.{Folder}
 use Rattle.exodus_mesh.specs.MeshIn.{numbers_of_var, values_in}
-use Rattle.exodus_mesh.specs.Found.{IsIntVar}
 use Rattle.exodus_mesh.proofs.VarValues.{bytes_len, has_pieces}
 use Rattle.remap_load.specs.declared.fault.LoadFault.{LoadFault}
 use Rattle.remap_load.specs.Frame.{OnFile}

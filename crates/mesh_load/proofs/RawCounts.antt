@@ -1,5 +1,5 @@
 -- How many nodes and faces a raw mesh of a file has.
-use Rattle.std.proofs.Common.{◌≡◌, ◌≢◌, ◌==◌, ℕ, zero, suc, ◌+◌, ◌≤◌, ℤ, Bool, true, false, if◌then◌else◌, List, [], ◌∷◌, ◌++◌, length, map, All, Result, Ok, Err, slice_index, refl, sym, ap, subst, ◌∙◌, arith, length-append}
+use Rattle.std.proofs.Common.{◌≡◌, ◌≢◌, ◌==◌, ℕ, zero, suc, ◌≤◌, ℤ, Bool, true, false, if◌then◌else◌, List, [], ◌∷◌, ◌++◌, length, map, All, Result, Ok, Err, slice_index, refl, sym, ap, subst, ◌∙◌, arith, length-append}
 use Rattle.std.specs.List.{sum_by}
 use Rattle.std.proofs.lemmas.Bool.Decides.{nat_tests}
 use Rattle.std.proofs.lemmas.List.{length-map}
@@ -9,7 +9,6 @@ use Rattle.std.proofs.lemmas.List.Sums.{sum_by-cons, sum_by-append}
 use Rattle.nc_format.specs.declared.NcFile.{NcFile}
 use Rattle.nc_format.specs.Grammar.{lens_of}
 use Rattle.nc_format.specs.Numbers.{dim_named}
-use Rattle.exodus_mesh.specs.declared.ids.NameId.{NameId}
 use Rattle.exodus_mesh.specs.declared.ids.NameId.TheVariants.{NumElBlk}
 use Rattle.exodus_mesh.specs.declared.ids.NameFault.{NameFault}
 use Rattle.exodus_mesh.specs.declared.ids.NameFault.TheVariants.{Missing, Shape}
@@ -17,7 +16,7 @@ use Rattle.exodus_mesh.specs.declared.vars.BlockVar.{BlockVar}
 use Rattle.exodus_mesh.specs.declared.vars.MeshVars.{MeshVars}
 use Rattle.exodus_mesh.specs.Names.{◌>>=◌, name_of, found_or}
 use Rattle.exodus_mesh.specs.MeshNames.{one_len, coord_in, nodes_in, block_count_in, block_in, blocks_in, mesh_vars_in}
-use Rattle.exodus_mesh.specs.MeshValues.{axis, node_at, nodes_of, face_of_row, rows_of, block_faces, faces_of, row_lens, mesh_of}
+use Rattle.exodus_mesh.specs.MeshValues.{axis, node_at, face_of_row, rows_of, block_faces, faces_of, row_lens, mesh_of}
 use Rattle.exodus_mesh.specs.Found.{IsBlockVar}
 use Rattle.exodus_mesh.proofs.FoundVars.{AreMeshVars, mesh_vars_ok, value_ok, ok_same}
 
@@ -78,6 +77,6 @@ some_faces file vars h =
     let s = value_ok (blocks_in file r.0) (λ blocks. Ok (record { coord = p.0; nodes = q.0; blocks = blocks; faces = sum_by (λ (b : BlockVar). b.faces) blocks })) vars r.2 in
     let here : MeshVars = record { coord = p.0; nodes = q.0; blocks = s.0; faces = sum_by (λ (b : BlockVar). b.faces) s.0 } in
     let same : here ≡ vars = ok_same here vars s.2 in
-    let blocks : s.0 ≡ vars.blocks = ap {x = here} (λ (v : MeshVars). v.blocks) same in
+    let blocks : s.0 ≡ vars.blocks = ap (λ (v : MeshVars). v.blocks) same in
     let all : All (IsBlockVar file) s.0 = subst (λ (l : List BlockVar). All (IsBlockVar file) l) (sym blocks) are.blocks in
     omega (arith, last_face file r.0 s.0 (some_blocks file r.0 r.1) s.1 all, ap (λ (v : MeshVars). v.faces) same)

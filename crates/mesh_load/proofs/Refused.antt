@@ -1,12 +1,10 @@
 -- What refusals say of a file, by the faults that they come from.
-use Rattle.std.proofs.Common.{◌≡◌, ◌≢◌, ◌⊎◌, inl, inr, ℕ, ◌<◌, ◌≤◌, List, length, Option, Some, None, IsSomeAnd, Result, Ok, Err, IsErrOf, IsErrAnd, refl, sym, ap, subst, ◌∙◌, arith}
+use Rattle.std.proofs.Common.{◌≡◌, ◌≢◌, inl, inr, ℕ, List, Option, Some, None, IsSomeAnd, Result, Ok, Err, IsErrAnd, refl, sym, ap, subst, ◌∙◌, arith}
 use Rattle.std.specs.Prelude.{IfOk, IfErr, IfSome, OnOk}
 use Rattle.vec_exact.specs.declared.RawMesh.{RawMesh}
 use Rattle.vec_exact.specs.Counts.{AreAllowedCounts}
 use Rattle.remap_io.specs.Folder.{Folder, file_at}
 use Rattle.nc_format.specs.declared.NcFile.{NcFile}
-use Rattle.nc_format.specs.declared.fault.NcFault.{NcFault}
-use Rattle.nc_format.specs.Header.{IsHeader, first_fault}
 use Rattle.mesh_check.specs.declared.faults.MeshFault.{MeshFault}
 use Rattle.mesh_check.specs.declared.faults.MeshFault.TheVariants as mesh_faults
 use Rattle.mesh_check.specs.Mesh.{IsAcceptedMesh}
@@ -20,16 +18,13 @@ use Rattle.exodus_mesh.specs.MeshIn as mesh
 use Rattle.exodus_mesh.specs.MeshIn.{mesh_in, mesh_at, mesh_count_fault, if_named, if_counted}
 use Rattle.exodus_mesh.proofs.ReadValues.{mesh_in_is}
 use Rattle.remap_load.specs.declared.Head.{Head}
-use Rattle.remap_load.specs.declared.fault.LoadFault.{LoadFault}
-use Rattle.remap_load.specs.declared.fault.LoadFault.TheVariants as load
-use Rattle.remap_load.specs.Frame.{OnFile, OnNoFile}
+use Rattle.remap_load.specs.Frame.{OnFile}
 use Rattle.remap_load.specs.Heads.{IsHead, IsHeadOfBytes}
-use Rattle.remap_load.specs.Faults.{IsFaultOf, IsOfRead}
 use Rattle.remap_load.proofs.Fronts.{on_file, on_this_file}
 use Rattle.mesh_load.specs.declared.MeshRefusal.{MeshRefusal}
 use Rattle.mesh_load.specs.declared.MeshRefusal.TheVariants.{NoFile, ReadFault, TooLong, Format, Names, Mesh, NoMemory}
-use Rattle.mesh_load.specs.MeshFile.{IsNetcdf, IsMeshOf, IsRefusedBytes, HasNameFault, HasCountFault, HasMeshFault, IsRefusedFile, IsRefusalOf}
-use Rattle.mesh_load.specs.Refusals.{refusal_of_load, refusal_of_names, refusal_of_mesh, IsOuter, IsRefusal, IsOfHeader, IsOfMesh}
+use Rattle.mesh_load.specs.MeshFile.{IsNetcdf, IsMeshOf, IsRefusedBytes, HasNameFault, IsRefusedFile, IsRefusalOf}
+use Rattle.mesh_load.specs.Refusals.{refusal_of_names, refusal_of_mesh, IsRefusal, IsOfHeader, IsOfMesh}
 
 -- a refusal that was answered
 pub answered : {A : Type 0} (P : MeshRefusal → Type 0) (r : Result A MeshRefusal) (refusal : MeshRefusal) → r ≡ Err refusal → P refusal → IfErr r P

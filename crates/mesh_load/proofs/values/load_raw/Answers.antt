@@ -5,7 +5,7 @@ use Rattle.exodus_mesh.specs.declared.vars.BlockVar.{BlockVar}
 use Rattle.exodus_mesh.specs.declared.vars.CoordVars.{CoordVars}
 use Rattle.exodus_mesh.specs.declared.vars.MeshVars.{MeshVars}
 use Rattle.exodus_mesh.specs.Found.{AreCoordVars, IsBlockVar}
-use Rattle.exodus_mesh.specs.MeshValues.{coord_lens, row_lens, mesh_of}
+use Rattle.exodus_mesh.specs.MeshValues.{row_lens}
 use Rattle.exodus_mesh.specs.MeshIn.{coords_in, rows_in}
 use Rattle.exodus_mesh.proofs.FoundVars.{AreMeshVars, mesh_vars_ok}
 use Rattle.exodus_mesh.proofs.VarValues.{coords_len, rows_len}
@@ -58,8 +58,8 @@ returns-clause-faces g c =
     let some : (bytes : List ℕ) × IsHeader bytes (length bytes) head.file = filled head c.requires.head in
     let same : c.deref.result.now ≡ c.args.vars.now.blocks = c.deref.ensures.value ∙ ap (λ (v : MeshVars). v.blocks) c.vars.view_is in
     let lens : map length c.deref-3.result.now ≡ row_lens c.args.vars.now.blocks =
-        ap (λ (l : List (List ℤ)). map length l) c.deref-3.ensures.value
-        ∙ c.in_ok-rows.ensures.lens some.0 some.1
-        ∙ ap (λ (x : List BlockVar). map length (rows_in head.file some.0 x)) same
-        ∙ rows_len some.0 head.file c.args.vars.now.blocks some.1 are.blocks in
+    ap (λ (l : List (List ℤ)). map length l) c.deref-3.ensures.value
+    ∙ c.in_ok-rows.ensures.lens some.0 some.1
+    ∙ ap (λ (x : List BlockVar). map length (rows_in head.file some.0 x)) same
+    ∙ rows_len some.0 head.file c.args.vars.now.blocks some.1 are.blocks in
     ap (λ (m : RawMesh). length m.faces) c.in_ok-raw.ensures.mesh ∙ raw_faces head.file c.args.vars.now c.deref-2.result.now c.deref-3.result.now are lens

@@ -1,4 +1,4 @@
-use Rattle.std.proofs.Common.{rules, ◌≡◌, ◌∙◌, ◌+◌, ◌≤◌, ℕ, ℤ, List, length, map, All, subst, sym, ap, arith, Vec, Global}
+use Rattle.std.proofs.Common.{◌≡◌, ◌∙◌, ◌+◌, ◌≤◌, ℕ, ℤ, List, length, map, All, subst, sym, ap, arith, Vec, Global}
 use Rattle.std.specs.List.{sum_by}
 use Rattle.nc_format.specs.Header.{IsHeader}
 use Rattle.exodus_mesh.specs.declared.vars.BlockVar.{BlockVar}
