@@ -7,7 +7,7 @@ use Rattle.block_claims.specs.declared.rule.Kind.TheVariants.{First, Further, Sp
 use Rattle.block_claims.specs.declared.rule.View.{View}
 use Rattle.block_claims.specs.Views.{is_first, is_spent, is_done_or_spent, further_view, spent_view, times}
 
--- what a view holds by its kind, where there are n blocks: a first one the number of blocks and whatever else;
+-- what a view holds by its kind, where there are n blocks: a first one the number of blocks, a list, perhaps a last word, and two counts of tickets;
 -- a further one the number of blocks, a list and perhaps a last word; a spent one nothing
 abbrev pub HoldsByKind : ℕ → Kind → View → Type 0
 HoldsByKind n First v = v.blocks ≡ n
@@ -27,15 +27,15 @@ pub record IsDrawnOnce (n w : ℕ) (views : List View) (i : ℕ) (mine : List �
 
 pub record IsClaimed (n w : ℕ) (views : List View) : Type 0 where
   pub kinds : (i : ℕ) (v : View) → IsViewOf views i v → HoldsByKind n v.kind v
-  -- exactly one view is first; it knows how many tickets there are, at most 64, and how many are spent
+  -- exactly one view is first; it knows how many views there are, at most 64, and how many of them are spent
   pub one_first : count_by (λ v. is_first v.kind) views ≡ 1
   pub first : (i : ℕ) (v : View) → IsViewOf views i v → v.kind ≡ First
       → (v.made ≡ length views) × (v.made ≤ 64) × (v.back ≡ count_by (λ u. is_spent u.kind) views)
-  -- a number that was drawn was drawn once
+  -- a number that stands in a list was drawn once
   pub drawn : (i : ℕ) (v : View) → IsViewOf views i v → (x : ℕ) → Contains v.mine x → IsDrawnOnce n w views i v.mine x
-  -- no number below both the number of blocks and the word is left out
+  -- each number below both the number of blocks and the word stands in a list
   pub none_left_out : (x : ℕ) → x < n → x < w → (i : ℕ) × (v : View) × IsViewOf views i v × Contains v.mine x
   -- a ticket that is done found a word from which on there was no block
   pub done : (i : ℕ) (v : View) → IsViewOf views i v → (last : ℕ) → v.last ≡ Some last → (n ≤ last) × (last < w)
-  -- past the blocks the word rises by one for each ticket at most
+  -- the word exceeds the number of blocks by no more than the number of tickets that are done or spent
   pub word : w ≤ n + count_by is_done_or_spent views

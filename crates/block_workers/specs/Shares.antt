@@ -1,5 +1,5 @@
 -- What one worker has done.
-use Rattle.std.specs.Prelude.{◌≡◌, ℕ, ◌≤◌, [], None, All}
+use Rattle.std.specs.Prelude.{◌≡◌, ℕ, [], None, All}
 use Rattle.block_claims.specs.declared.rule.Kind.{Kind}
 use Rattle.block_claims.specs.Seen.{ClaimWordValue, TicketValue, IsTicketOf}
 use Rattle.block_workers.specs.declared.worker.Share.{Share}

@@ -1,4 +1,4 @@
-use Rattle.std.proofs.Common.{◌+◌, ◌-◌, ◌*◌}
+use Rattle.std.proofs.Common.{◌-◌, ◌*◌}
 use Rattle.block_workers.proofs.run.+fn-spread-join+arg3+spread.Given as goal
 
 abbrev pub decreases-join+arg3 : goal.decreases-join+arg3

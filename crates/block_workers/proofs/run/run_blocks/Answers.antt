@@ -1,7 +1,6 @@
-use Rattle.std.proofs.Common.{rules, ◌≡◌, ◌<◌, All, Contains}
 use Rattle.std.proofs.lemmas.Result.{IfOk-weaker}
 use Rattle.std.proofs.lemmas.List.Elements.{All-contains}
-use Rattle.block_workers.specs.FinishedBlocks.{finished_as, IsRight}
+use Rattle.block_workers.specs.FinishedBlocks.{IsRight}
 use Rattle.block_workers.proofs.run.run_blocks.Goals as goal
 
 pub returns-clause-each : goal.returns-clause-each
