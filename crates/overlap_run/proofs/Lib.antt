@@ -8,3 +8,4 @@ mod WholeSteps
 mod RingCorners
 mod Targets
 mod ClipCounts
+mod NumberedBlocks

@@ -1,5 +1,5 @@
 -- Parts of an overlap: some of its pieces, and how many there are. Source: our own.
-use Rattle.std.specs.Prelude.{◌≡◌, ℕ, ◌+◌, ◌-◌, ◌<◌, ◌≤◌, ◌⊎◌, List, [], ◌∷◌, ◌++◌, length, map, All}
+use Rattle.std.specs.Prelude.{◌≡◌, ℕ, ◌+◌, ◌-◌, ◌*◌, ◌<◌, ◌≤◌, ◌⊎◌, List, [], ◌∷◌, ◌++◌, length, map, All, min}
 use Rattle.std.specs.List.{range_with_len, sum_by}
 use Rattle.vec_exact.specs.declared.RawMesh.{RawMesh}
 use Rattle.cell_index.specs.CandidateList.{candidates_of}
@@ -56,3 +56,8 @@ targets_of a b i = candidates_of a i b
 -- how many pairs are clipped for the source faces from `first` to `last`
 unfoldable pub clip_count : RawMesh → RawMesh → ℕ → ℕ → ℕ
 clip_count a b first last = sum_by (λ (i : ℕ). length (targets_of a b i)) (range_with_len first (last + 1 - first))
+
+-- the block with this number, which counts from 0: it has the pairs of 64 source faces, as far as the mesh has them
+pub record IsNumberedBlock {C : Type 0} (Holds : C → List Piece → Type 0) (a b : RawMesh) (s : ℕ) (block : Block C) : Type 0 where
+  pub block_of : IsBlockOf Holds a b (DoMeetWithin a b (64 * s + 1) (min (length a.faces) (64 * (s + 1)))) block
+  pub few : block.count ≤ clip_count a b (64 * s + 1) (min (length a.faces) (64 * (s + 1)))

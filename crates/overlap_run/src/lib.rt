@@ -10,6 +10,7 @@ mod rings;
 mod run;
 #[cfg(test)]
 mod tests;
+mod workers;
 
 pub use blocks::{Block, clip_block};
 pub use faults::RunFault;

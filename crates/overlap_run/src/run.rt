@@ -5,7 +5,7 @@ ghost use Rattle.overlap_run.specs.Pairs.{DoMeet, IsPairCount};
 ghost use Rattle.overlap_run.specs.Whole.{HoldsOverlap, IsOverlapOf, IsRefusalOf};
 ghost use Rattle.overlap_run.specs.Parts.{DoMeetWithin, IsBlockOf, TakesBlock, clip_count};
 
-use crate::blocks::{GREATEST_COUNT, clip_block};
+use crate::blocks::{BLOCK_SIZE, GREATEST_COUNT, numbered_block, take_block};
 use crate::{Block, Gate, RunFault};
 use cell_index::{Index, build};
 use clip::{Overlap, PieceList, Pieces};
@@ -14,28 +14,6 @@ use std::alloc::Global;
 use std::sync::ledger::Ledger;
 use std::thread::Threads;
 use vec_exact::{NoMemory, Steps};
-
-// Block s, from 0, holds the source faces from 64 s + 1 to 64 s + 64, as far as the mesh has them.
-const BLOCK_SIZE: u32 = 64;
-
-// Puts the pieces of one block more behind those of the blocks so far. Past the limit all pieces are
-// dropped, and the counts go on.
-fn take_block<C: PieceList>(
-    alloc: Global,
-    run: &mut Block<C>,
-    block: Block<C>,
-) -> Result<(), NoMemory>
-    requires room { run.old.count + block.count < 2 ^ 64 }
-    ensures { OnOk result (TakesBlock C.holds run.old block run.new) }
-{
-    run.count += block.count;
-    if run.count > GREATEST_COUNT {
-        run.pieces = C::none(alloc);
-        return Ok(());
-    }
-    run.pieces.append(block.pieces)?;
-    Ok(())
-}
 
 // All blocks, ascending, on the calling thread, as one.
 fn ascending<C: PieceList, G: Gate, L: Ledger>(
@@ -51,17 +29,15 @@ fn ascending<C: PieceList, G: Gate, L: Ledger>(
     ensures ticks { OnOk result (steps.new ≡ steps.old + clip_count a.now b.now 1 (length a.now.faces)) }
     ensures most { steps.new ≤ steps.old + clip_count a.now b.now 1 (length a.now.faces) }
 {
+    // The counts say that all numbers fit.
+    let _target_faces = face_count(b);
     let faces = face_count(a);
     let mut run = Block {
         count: 0,
         pieces: C::none(alloc),
     };
     for s in 0..faces.div_ceil(BLOCK_SIZE) {
-        let from = BLOCK_SIZE * s + 1;
-        let to = faces.min(BLOCK_SIZE * (s + 1));
-        gate.enter(s);
-        let block = clip_block(alloc, a, b, index, from, to, steps)?;
-        gate.leave(s);
+        let block = numbered_block(alloc, a, b, index, gate, s, steps)?;
         take_block(alloc, &mut run, block)?;
     }
     Ok(run)
