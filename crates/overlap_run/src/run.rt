@@ -6,6 +6,7 @@ ghost use Rattle.overlap_run.specs.Whole.{HoldsOverlap, IsOverlapOf, IsRefusalOf
 ghost use Rattle.overlap_run.specs.Parts.{DoMeetWithin, IsBlockOf, TakesBlock, clip_count};
 
 use crate::blocks::{BLOCK_SIZE, GREATEST_COUNT, numbered_block, take_block};
+use crate::workers::shared_out;
 use crate::{Block, Gate, RunFault};
 use cell_index::{Index, build};
 use clip::{Overlap, PieceList, Pieces};
@@ -43,9 +44,34 @@ fn ascending<C: PieceList, G: Gate, L: Ledger>(
     Ok(run)
 }
 
+// All blocks, on the calling thread or by several workers, as one.
+fn all_blocks<R: Threads, C: PieceList + Send + Sync, G: Gate + Sync, L: Ledger>(
+    rt: &R,
+    alloc: Global,
+    a: &Mesh,
+    b: &Mesh,
+    index: &Index,
+    workers: u32,
+    gate: &G,
+    steps: &mut Steps<L>,
+) -> Result<Block<C>, NoMemory>
+    requires index { IsIndexOf index.now b.now }
+    requires workers { (1 ≤ workers) × (workers ≤ 64) }
+    ensures run { IfOk result (IsBlockOf C.holds a.now b.now (DoMeet a.now b.now)) }
+    ensures ticks { workers ≡ 1 → OnOk result (steps.new ≡ steps.old + clip_count a.now b.now 1 (length a.now.faces)) }
+    ensures most { workers ≡ 1 → steps.new ≤ steps.old + clip_count a.now b.now 1 (length a.now.faces) }
+    ensures still { 2 ≤ workers → steps.new ≡ steps.old }
+{
+    if workers == 1 {
+        ascending(alloc, a, b, index, gate, steps)
+    } else {
+        shared_out(rt, alloc, a, b, index, workers, gate)
+    }
+}
+
 /// The pieces of the overlap of `a` and `b`, as `overlap` gives them, in a list of any form; faults
 /// and steps are those of `overlap`.
-pub fn overlap_list<C: PieceList, G: Gate + Sync, L: Ledger>(
+pub fn overlap_list<C: PieceList + Send + Sync, G: Gate + Sync, L: Ledger>(
     rt: &impl Threads,
     alloc: Global,
     a: &Mesh,
@@ -64,12 +90,14 @@ pub fn overlap_list<C: PieceList, G: Gate + Sync, L: Ledger>(
     // one worker takes a step for each pair that is clipped
     ensures ticks { workers ≡ 1 → result ≢ Err RunFault.NoMemory → steps.new ≡ steps.old + clip_count a.now b.now 1 (length a.now.faces) }
     ensures most { workers ≡ 1 → steps.new ≤ steps.old + clip_count a.now b.now 1 (length a.now.faces) }
+    // each of several workers has a counter of its own
+    ensures still { 2 ≤ workers → steps.new ≡ steps.old }
 {
     // The counts say that the two meshes are within the limits of an overlap.
     let _source_faces = face_count(a);
     let _target_faces = face_count(b);
     let index = build(alloc, b)?;
-    let run = ascending(alloc, a, b, &index, gate, steps)?;
+    let run = all_blocks(rt, alloc, a, b, &index, workers, gate, steps)?;
     if run.count > GREATEST_COUNT {
         return Err(RunFault::TooManyPieces(run.count));
     }
@@ -83,8 +111,10 @@ pub fn overlap_list<C: PieceList, G: Gate + Sync, L: Ledger>(
 /// `TooManyPieces` holds the number of pairs that meet; it comes exactly where that is above
 /// 8,388,608. `NoMemory` may come in place of any answer.
 ///
-/// The source faces are taken in blocks of 64. `gate` is told of each block, with its number from
-/// 0, before it begins and after it is done.
+/// The source faces are taken in blocks of 64, ascending on the calling thread with one worker. More
+/// workers are started by join and draw the blocks; where no thread can be made they work one after
+/// another. `gate` is told of each block, with its number from 0, before it begins and after it is
+/// done.
 pub fn overlap<G: Gate + Sync, L: Ledger>(
     rt: &impl Threads,
     alloc: Global,
@@ -104,6 +134,8 @@ pub fn overlap<G: Gate + Sync, L: Ledger>(
     // one worker takes a step for each pair that is clipped
     ensures ticks { workers ≡ 1 → result ≢ Err RunFault.NoMemory → steps.new ≡ steps.old + clip_count a.now b.now 1 (length a.now.faces) }
     ensures most { workers ≡ 1 → steps.new ≤ steps.old + clip_count a.now b.now 1 (length a.now.faces) }
+    // each of several workers has a counter of its own
+    ensures still { 2 ≤ workers → steps.new ≡ steps.old }
 {
     let pieces: Pieces = match overlap_list(rt, alloc, a, b, workers, gate, steps) {
         Ok(pieces) => pieces,

@@ -6,11 +6,11 @@ ghost use Rattle.block_workers.specs.InPlace.{AllInPlace};
 ghost use Rattle.overlap_run.specs.Pairs.{DoMeet};
 ghost use Rattle.overlap_run.specs.Parts.{IsBlockOf, IsNumberedBlock};
 
-use crate::blocks::{BLOCK_SIZE, numbered_block, take_block};
-use crate::{Block, Gate};
+use crate::blocks::{BLOCK_SIZE, GREATEST_COUNT, numbered_block, take_block};
+use crate::{Block, Gate, OpenGate};
 use block_workers::{BlockJob, run_blocks};
-use cell_index::Index;
-use clip::PieceList;
+use cell_index::{Index, find_candidates};
+use clip::{Piece, PieceList};
 use mesh_check::{Mesh, face_count};
 use std::alloc::Global;
 use std::marker::{Brand, PhantomData};
@@ -118,4 +118,100 @@ fn drawn<R: Threads, C: PieceList + Send + Sync, G: Gate + Sync>(
     };
     let blocks = run_blocks(rt, alloc, &job, face_count(a).div_ceil(BLOCK_SIZE), workers)?;
     gathered(alloc, a, b, blocks)
+}
+
+// A list that keeps no piece, for blocks whose pieces are only counted.
+#[derive(Drop)]
+struct NoPieces;
+
+impl PieceList for NoPieces {
+    ghost use Rattle.std.specs.Prelude.{⊤};
+
+    ghost holds = { λ _ _. ⊤ };
+
+    fn none(_alloc: Global) -> Self {
+        NoPieces
+    }
+
+    fn push(&mut self, _piece: Piece) -> Result<(), NoMemory> {
+        Ok(())
+    }
+
+    fn append(&mut self, _other: Self) -> Result<(), NoMemory> {
+        Ok(())
+    }
+}
+
+// How many candidates the source faces of each block have. No clause says the numbers: they only
+// decide whether pairs are counted before their pieces are listed.
+#[derive(Drop)]
+struct CandidateCounts<'a> {
+    a: &'a Mesh,
+    index: &'a Index,
+}
+
+impl<'a> BlockJob for CandidateCounts<'a> {
+    ghost use Rattle.std.specs.Prelude.{⊤};
+
+    type Output = u64;
+
+    ghost blocks = { λ job. div_ceil (length job.a.now.faces) 64 };
+
+    ghost gives = { λ _ _ _. ⊤ };
+
+    fn run(&self, alloc: Global, block: u32) -> Result<u64, NoMemory> {
+        let faces = face_count(self.a);
+        let mut found = Vec::new(alloc);
+        let mut total = 0u64;
+        for i in BLOCK_SIZE * block + 1..faces.min(BLOCK_SIZE * (block + 1)) + 1 {
+            find_candidates(self.index, self.a, i, &mut found)?;
+            total = total.saturating_add(found.len() as u64);
+        }
+        Ok(total)
+    }
+}
+
+// Whether there are more candidates than an overlap may have pieces.
+fn are_many<R: Threads>(
+    rt: &R,
+    alloc: Global,
+    a: &Mesh,
+    index: &Index,
+    workers: u32,
+) -> Result<bool, NoMemory>
+    requires workers { (1 ≤ workers) × (workers ≤ 64) }
+{
+    let job = CandidateCounts { a, index };
+    let counts = run_blocks(rt, alloc, &job, face_count(a).div_ceil(BLOCK_SIZE), workers)?;
+    let total = counts
+        .iter()
+        .fold(0u64, |total, count| total.saturating_add(*count));
+    Ok(total > GREATEST_COUNT)
+}
+
+// All blocks, drawn by the workers, as one. Where there are more candidates than an overlap may have
+// pieces, the pairs are counted first, so that no list is kept past the limit.
+pub fn shared_out<R: Threads, C: PieceList + Send + Sync, G: Gate + Sync>(
+    rt: &R,
+    alloc: Global,
+    a: &Mesh,
+    b: &Mesh,
+    index: &Index,
+    workers: u32,
+    gate: &G,
+) -> Result<Block<C>, NoMemory>
+    requires index { IsIndexOf index.now b.now }
+    requires workers { (1 ≤ workers) × (workers ≤ 64) }
+    ensures { IfOk result (IsBlockOf C.holds a.now b.now (DoMeet a.now b.now)) }
+{
+    if are_many(rt, alloc, a, index, workers)? {
+        let counted: Block<NoPieces> = drawn(rt, alloc, a, b, index, workers, &OpenGate)?;
+        if counted.count > GREATEST_COUNT {
+            return Ok(Block {
+                count: counted.count,
+                pieces: C::none(alloc),
+            });
+        }
+    }
+    drawn(rt, alloc, a, b, index, workers, gate)
 }

@@ -1,4 +1,4 @@
-use Rattle.std.proofs.Common.{◌≡◌, ◌+◌, ◌<◌, ◌≤◌, ◌*◌, refl, ap, ◌∙◌, length, arith}
+use Rattle.std.proofs.Common.{◌+◌, ◌≤◌, refl, ap, ◌∙◌, arith}
 use Rattle.std.specs.Int.{div_ceil}
 use Rattle.overlap_run.proofs.NumberedBlocks.{has_face, clipped_none, clipped_more, clipped_at_most, blocks_none, blocks_more, few_more, room_for, blocks_end, ends_at_last}
 use Rattle.overlap_run.specs.Parts.{clip_count}

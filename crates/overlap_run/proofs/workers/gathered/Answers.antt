@@ -1,4 +1,4 @@
-use Rattle.std.proofs.Common.{◌≡◌, ◌+◌, ◌*◌, ◌<◌, ◌≤◌, ℕ, List, [], ◌∷◌, ◌++◌, length, refl, ap, sym, ◌∙◌, subst, arith, rules, length-append}
+use Rattle.std.proofs.Common.{◌≡◌, ◌+◌, ◌≤◌, ℕ, [], ◌∷◌, ◌++◌, length, refl, ap, sym, subst, arith, rules, length-append}
 use Rattle.std.specs.Int.{div_ceil}
 use Rattle.block_workers.specs.InPlace.{AllInPlace}
 use Rattle.overlap_run.specs.Parts.{IsNumberedBlock, IsBlockOf, DoMeetWithin}
