@@ -6,3 +6,4 @@ mod FoundOverlap
 mod ReadOverlaps
 mod RowsAgain
 mod OverlapAgain
+mod Taken

@@ -10,6 +10,8 @@ mod lengths;
 mod names;
 mod reading;
 mod rows;
+#[cfg(test)]
+mod tests;
 mod variables;
 mod vars;
 
