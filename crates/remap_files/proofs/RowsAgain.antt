@@ -85,6 +85,7 @@ front_corners pieces r all i d below =
     length-take_le zero l = omega arith
     length-take_le (suc k) [] = omega arith
     length-take_le (suc k) (x ∷ xs) = omega (arith, length-take_le k xs)
+
     length-take_le_all : (k : ℕ) (l : List Piece) → length (take k l) ≤ length l
     length-take_le_all zero l = omega arith
     length-take_le_all (suc k) [] = omega arith
