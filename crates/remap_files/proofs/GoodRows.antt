@@ -172,7 +172,9 @@ sound_rows v c faces_a faces_b few none =
   where
     inside : (i k n : ℕ) → i < k → k ≡ n → i < n
     inside i k n h e = omega (arith, h, e)
+
     less : (i j k : ℕ) → i < j → j < k → i < k
     less i j k h l = omega (arith, h, l)
+
     from_none : (i : ℕ) → 0 + i ≡ i
     from_none i = omega arith

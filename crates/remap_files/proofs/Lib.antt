@@ -4,3 +4,6 @@ mod RowFaults
 mod GoodRows
 mod FoundOverlap
 mod ReadOverlaps
+mod RowsAgain
+mod OverlapAgain
+mod Taken

@@ -133,6 +133,7 @@ no_rows v values none lens =
     no_lists : (l : List (List ℤ)) → map length l ≡ [] → l ≡ []
     no_lists [] h = refl
     no_lists (x ∷ xs) h = absurd cc
+
     is_zero : (n : ℕ) → n ≡ 0 → (n == 0) ≡ true
     is_zero n h = grind (arith, nat_tests)
 

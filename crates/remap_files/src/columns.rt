@@ -2,7 +2,8 @@
 ghost use Rattle.std.specs.Prelude.{◌≡◌, ◌<◌, ◌*◌, ◌^◌, ◌++◌, IfOk, OnOk, All, map, flat_map, pos};
 ghost use Rattle.remap_files.specs.Written.{HasSmallNumbers};
 ghost use Rattle.clip.specs.Overlaps.{IsRingNumber};
-ghost use Rattle.remap_files.specs.OverlapDocument.{sources_of, targets_of, ring_sizes_of, ring_of, ring_planes_of, triple_of, piece_corners, corners_of};
+ghost use Rattle.remap_files.specs.OverlapDocument.{sources_of, targets_of, ring_sizes_of, ring_of, ring_planes_of, triple_of, piece_corners, corners_of, IsCorner};
+ghost use Rattle.clip.specs.declared.pieces.Piece.{Piece};
 
 use clip::Piece;
 use std::alloc::{AllocError, Global};
@@ -61,7 +62,8 @@ pub fn ring_planes(alloc: Global, pieces: &[Piece], count: usize) -> Result<Vec<
 }
 
 fn put_corner(values: &mut Vec<i32>, corner: &[i32; 3]) -> Result<(), AllocError>
-    ensures { OnOk result (values.new.items ≡ values.old.items ++ triple_of corner.now) }
+    ensures values { OnOk result (values.new.items ≡ values.old.items ++ triple_of corner.now) }
+    ensures typed { OnOk result (IsCorner corner.now) }
 {
     values.push(corner[0])?;
     values.push(corner[1])?;
@@ -70,7 +72,9 @@ fn put_corner(values: &mut Vec<i32>, corner: &[i32; 3]) -> Result<(), AllocError
 }
 
 fn put_corners(values: &mut Vec<i32>, corners: &[[i32; 3]]) -> Result<(), AllocError>
-    ensures { OnOk result (values.new.items ≡ values.old.items ++ flat_map triple_of corners.now) }
+    ensures values { OnOk result (values.new.items ≡ values.old.items ++ flat_map triple_of corners.now) }
+    // Each corner is three numbers of 32 bits, as its type says.
+    ensures typed { OnOk result (All IsCorner corners.now) }
 {
     for corner in corners {
         put_corner(values, corner)?;
@@ -78,13 +82,21 @@ fn put_corners(values: &mut Vec<i32>, corners: &[[i32; 3]]) -> Result<(), AllocE
     Ok(())
 }
 
+fn put_piece(values: &mut Vec<i32>, piece: &Piece) -> Result<(), AllocError>
+    ensures values { OnOk result (values.new.items ≡ values.old.items ++ piece_corners piece.now) }
+    ensures typed { OnOk result (All IsCorner piece.now.corners) }
+{
+    put_corners(values, piece.corners.items.as_slice())
+}
+
 pub fn corners(alloc: Global, pieces: &[Piece], count: usize) -> Result<Vec<i32>, AllocError>
     requires { 3 * count < 2 ^ 63 }
-    ensures { IfOk result (λ values. values.items ≡ corners_of pieces.now) }
+    ensures values { IfOk result (λ values. values.items ≡ corners_of pieces.now) }
+    ensures typed { OnOk result (All (λ (p : Piece). All IsCorner p.corners) pieces.now) }
 {
     let mut values = Vec::with_capacity(alloc, 3 * count)?;
     for piece in pieces {
-        put_corners(&mut values, piece.corners.items.as_slice())?;
+        put_piece(&mut values, piece)?;
     }
     Ok(values)
 }

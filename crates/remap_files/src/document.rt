@@ -1,11 +1,15 @@
 // The document of an overlap.
-ghost use Rattle.std.specs.Prelude.{◌≡◌, ◌≤◌, ◌<◌, ◌^◌, ◌*◌, All, length, IfOk};
+ghost use Rattle.std.specs.Prelude.{◌≡◌, ◌≤◌, ◌<◌, ◌^◌, ◌*◌, All, length, IfOk, OnOk, Ok};
 ghost use Rattle.clip.specs.Overlaps.{IsSoundOverlap};
 ghost use Rattle.nc_write.specs.File.{file_of};
 ghost use Rattle.nc_write.specs.Form.{IsWellFormed};
 ghost use Rattle.nc_write.specs.declared.Values.TheVariants.{Byte, Int};
+ghost use Rattle.clip.specs.declared.pieces.Piece.{Piece};
+ghost use Rattle.nc_format.specs.declared.NcFile.{NcFile};
+ghost use Rattle.nc_format.specs.Header.{IsHeader};
+ghost use Rattle.remap_files.specs.OverlapIn.{overlap_in};
 ghost use Rattle.remap_files.specs.Written.{HasSmallNumbers};
-ghost use Rattle.remap_files.specs.OverlapDocument.{corner_count_of, overlap_atts, overlap_dims, overlap_vars, overlap_document, overlap_file_len};
+ghost use Rattle.remap_files.specs.OverlapDocument.{IsCorner, HasCorners, corner_count_of, overlap_atts, overlap_dims, overlap_vars, overlap_document, overlap_file_len};
 
 use crate::columns::{corners, ring_planes, ring_sizes, sources, targets};
 use crate::lengths::corner_count;
@@ -58,7 +62,8 @@ fn bytes(items: Vec<i8>) -> Values
 fn make_variables(alloc: Global, pieces: &[Piece], count: usize) -> Result<Vec<DocVar>, AllocError>
     requires numbers { All HasSmallNumbers pieces.now }
     requires count { count < 2 ^ 32 }
-    ensures { IfOk result (λ vars. vars.items ≡ overlap_vars pieces.now) }
+    ensures vars { IfOk result (λ vars. vars.items ≡ overlap_vars pieces.now) }
+    ensures typed { OnOk result (All (λ (p : Piece). All IsCorner p.corners) pieces.now) }
 {
     let mut vars = Vec::with_capacity(alloc, 5)?;
     let source = ints(sources(alloc, pieces)?);
@@ -78,6 +83,7 @@ fn make_variables(alloc: Global, pieces: &[Piece], count: usize) -> Result<Vec<D
 fn make_document(alloc: Global, overlap: &Overlap) -> Result<NcDoc, AllocError>
     ensures document { IfOk result (λ doc. doc ≡ overlap_document overlap.now) }
     ensures kept { IsSoundOverlap overlap.now }
+    ensures typed { OnOk result (HasCorners overlap.now) }
 {
     let pieces = &overlap.pieces.items;
     let (dims, vars) = if pieces.is_empty() {
@@ -108,6 +114,9 @@ pub fn overlap_doc(alloc: Global, overlap: &Overlap) -> Result<NcDoc, NoMemory>
     // It is a document that can be written, and its file has this length.
     ensures well_formed { IfOk result IsWellFormed }
     ensures file_length { IfOk result (λ doc. length (file_of doc) ≡ overlap_file_len (length overlap.now.pieces) (corner_count_of overlap.now.pieces)) }
+
+    // The overlap is read again from it.
+    ensures read_again { IfOk result (λ doc. (f : NcFile) → IsHeader (file_of doc) (length (file_of doc)) f → overlap_in f (file_of doc) ≡ Ok overlap.now) }
 {
     let doc = make_document(alloc, overlap)?;
     Ok(doc)

@@ -5,16 +5,20 @@ mod columns;
 mod document;
 mod faults;
 mod finding;
+mod laws;
 mod lengths;
 mod names;
 mod reading;
 mod rows;
+#[cfg(test)]
+mod tests;
 mod variables;
 mod vars;
 
 pub use document::overlap_doc;
 pub use faults::FileFault;
 pub use finding::find_overlap;
+pub use laws::law_overlap_read_again;
 pub use lengths::{corner_count, overlap_length};
 pub use reading::read_overlap;
 pub use rows::overlap_from;

@@ -31,12 +31,7 @@ fn values(alloc: Global, file: &NcFile, bytes: &[u8], place: u32) -> Result<Ints
     Ok(Ints { items })
 }
 
-fn lists(
-    alloc: Global,
-    file: &NcFile,
-    bytes: &[u8],
-    places: &[u32],
-) -> Result<Vec<Ints>, NoMemory>
+fn lists(alloc: Global, file: &NcFile, bytes: &[u8], places: &[u32]) -> Result<Vec<Ints>, NoMemory>
     requires header { IsHeader bytes.now (length bytes.now) file.now }
     requires vars { All (IsSomeIntVar file.now) places.now }
     ensures { IfOk result (λ lists. lists.items ≡ lists_in file.now bytes.now places.now) }

@@ -8,7 +8,6 @@ ghost use Rattle.remap_files.specs.Answers.{Refuses, IsOfRows};
 ghost use Rattle.remap_files.specs.OverlapNames.{is_within};
 ghost use Rattle.remap_files.specs.OverlapRows.{columns_of, exceeds, has_good_faces, ring_begin, ring_len, has_good_ring, is_good_row, piece_of, piece_at, row_fault, overlap_of, overlap_lens};
 
-
 use crate::finding::is_within;
 use crate::{FileFault, OverlapVars};
 use arrayvec::ArrayVec;
@@ -106,8 +105,13 @@ fn is_good_row(vars: &OverlapVars, values: &[Ints], r: usize, begin: usize) -> b
     requires inside { begin ≤ length (columns_of values.now).ring_plane }
     ensures { result ≡ is_good_row vars.now.faces_a vars.now.faces_b (columns_of values.now) r }
 {
-    has_good_faces(vars.faces_a, vars.faces_b, column(values, 0), column(values, 1), r)
-        && has_good_ring(column(values, 2), column(values, 3), r, begin)
+    has_good_faces(
+        vars.faces_a,
+        vars.faces_b,
+        column(values, 0),
+        column(values, 1),
+        r,
+    ) && has_good_ring(column(values, 2), column(values, 3), r, begin)
 }
 
 // The length of the ring of row r.
@@ -148,11 +152,7 @@ fn make_piece(
 
 // The pieces of all rows, or the first row at fault.
 #[tactic(auto, using(crate::proofs::RowFaults::one_more_good, crate::proofs::RowFaults::next_begin, crate::proofs::GoodRows::row_ring))]
-fn make_pieces(
-    alloc: Global,
-    vars: &OverlapVars,
-    values: &[Ints],
-) -> Result<Vec<Piece>, FileFault>
+fn make_pieces(alloc: Global, vars: &OverlapVars, values: &[Ints]) -> Result<Vec<Piece>, FileFault>
     requires lists { HasFiveLists vars.now values.now }
     requires count { vars.now.pieces ≤ 8388608 }
     ensures good { IfOk result (λ _. row_fault vars.now (columns_of values.now) ≡ None) }
