@@ -1,3 +1,4 @@
+mod AcceptedMesh
 mod Gaining
 mod Written
 pub mod Outcomes

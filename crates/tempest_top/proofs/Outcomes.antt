@@ -1,23 +1,34 @@
--- A command has at most one outcome, and what a refusal before any call of a device keeps.
-use Rattle.std.proofs.Common.{◌≡◌, ◌∙◌, ℕ, List, true, Option, Some, None, codes, refl, sym, ap, subst, inl, append-nil}
+-- A command has at most one outcome, and what is promised of a call that comes to it.
+use Rattle.std.proofs.Common.{◌≡◌, ◌≢◌, ◌⊎◌, ◌∙◌, ℕ, List, true, Option, Some, None, codes, refl, sym, ap, subst, inl, inr}
+use Rattle.vec_exact.specs.declared.RawMesh.{RawMesh}
 use Rattle.remap_io.specs.Folder.{Folder}
-use Rattle.remap_io.specs.Held.{GainsPart}
+use Rattle.mesh_check.specs.declared.faults.MeshFault.{MeshFault}
+use Rattle.mesh_check.specs.FirstFault.{IsFirstMeshFault}
+use Rattle.mesh_check.specs.Mesh.{IsAcceptedMesh}
+use Rattle.mesh_check.proofs.FirstFaults.{same_first_fault, no_first_fault}
 use Rattle.command_line.specs.declared.choices.Chosen.{Chosen}
 use Rattle.command_line.specs.declared.choices.Chosen.TheVariants.{Cs, Rll, Ico, Overlap, OfflineMap, Apply, SelfRun, Coverage, Check}
 use Rattle.tempest_top.specs.declared.status.Status.{Status}
-use Rattle.tempest_top.specs.declared.status.Status.TheVariants.{Usage, NoMemory}
+use Rattle.tempest_top.specs.declared.status.Status.TheVariants.{Done, Usage, NoFile, Format, Names, Mesh, Rows, Uncovered, Limit, Field, ReadFault, WriteFault, NoMemory}
 use Rattle.tempest_top.specs.Lines.{line_of, GainsLine}
-use Rattle.tempest_top.specs.Outcome.{Output, Outcome, IsOutcome, TheOutcome, refusal, is_usage}
-use Rattle.tempest_top.specs.Promises.{Keeps, IsPartlyWritten}
+use Rattle.tempest_top.specs.Outcome.{Output, Outcome, IsOutcome, IsOutcomeOfMade, TheOutcome, refusal, fault_of_made, mesh_written, is_usage, output_of}
+use Rattle.tempest_top.specs.Promises.{IsAnswer, IsLine, IsWriteFaultLine, IsEnd, IsEndLine, Keeps, Ends}
 
 -- what two outcomes are equal to
 same : (o p q : Outcome) → o ≡ q → p ≡ q → o ≡ p
 same o p q e f = e ∙ sym f
 
+-- a mesh that was made has one outcome
+one_made : (raw : RawMesh) (file : List ℕ) (m : Option Folder) (o p : Outcome) → IsOutcomeOfMade raw file m o → IsOutcomeOfMade raw file m p → o ≡ p
+one_made raw file m o p (inl a) (inl b) = a.2 ∙ ap (λ (fault : MeshFault). fault_of_made fault m) (same_first_fault raw a.0 b.0 a.1 b.1) ∙ sym b.2
+one_made raw file m o p (inl a) (inr b) = absurd (b.0 a.0 a.1)
+one_made raw file m o p (inr a) (inl b) = absurd (a.0 b.0 b.1)
+one_made raw file m o p (inr a) (inr b) = same o p _ a.1 b.1
+
 pub one_outcome : (chosen : Option Chosen) (m : Option Folder) (o p : Outcome) → IsOutcome chosen m o → IsOutcome chosen m p → o ≡ p
 one_outcome None m o p e f = same o p _ e f
 one_outcome (Some (Cs res file)) m o p e f = same o p _ e f
-one_outcome (Some (Rll lon lat file)) m o p e f = same o p _ e f
+one_outcome (Some (Rll lon lat file)) m o p e f = one_made _ file m o p e f
 one_outcome (Some (Ico res dual file)) m o p e f = same o p _ e f
 one_outcome (Some (Overlap a b out workers)) m o p e f = same o p _ e f
 one_outcome (Some (OfflineMap in_mesh out_mesh ov_mesh out_map)) m o p e f = same o p _ e f
@@ -26,11 +37,15 @@ one_outcome (Some (SelfRun n workers)) m o p e f = same o p _ e f
 one_outcome (Some (Coverage a b)) m o p e f = same o p _ e f
 one_outcome (Some (Check file workers)) m o p e f = same o p _ e f
 
+-- a mesh that is accepted is written
+pub accepted_made : (raw : RawMesh) (file : List ℕ) (m : Option Folder) → IsAcceptedMesh raw → IsOutcomeOfMade raw file m (mesh_written raw file m)
+accepted_made raw file m accepted = inr ((λ fault first. no_first_fault raw fault accepted first), refl)
+
 -- the outcome of words that are out of the grammar, or name a command that isn't there yet
-pub usage_outcome : (chosen : Option Chosen) (m : Option Folder) → is_usage chosen ≡ true → IsOutcome chosen m (refusal Usage (codes "usage") m)
+usage_outcome : (chosen : Option Chosen) (m : Option Folder) → is_usage chosen ≡ true → IsOutcome chosen m (refusal Usage (codes "usage") m)
 usage_outcome None m h = refl
 usage_outcome (Some (Cs res file)) m h = cc
-usage_outcome (Some (Rll lon lat file)) m h = refl
+usage_outcome (Some (Rll lon lat file)) m h = absurd cc
 usage_outcome (Some (Ico res dual file)) m h = refl
 usage_outcome (Some (Overlap a b out workers)) m h = refl
 usage_outcome (Some (OfflineMap in_mesh out_mesh ov_mesh out_map)) m h = refl
@@ -40,71 +55,107 @@ usage_outcome (Some (Coverage a b)) m h = refl
 usage_outcome (Some (Check file workers)) m h = refl
 
 -- it is the only one
-pub the_outcome : (chosen : Option Chosen) (m : Option Folder) (P : Outcome → Type 0) (o : Outcome) → IsOutcome chosen m o → P o → TheOutcome chosen m P
+the_outcome : (chosen : Option Chosen) (m : Option Folder) (P : Outcome → Type 0) (o : Outcome) → IsOutcome chosen m o → P o → TheOutcome chosen m P
 the_outcome chosen m P o is holds = (o, is, (λ p h. one_outcome chosen m p o h is), holds)
 
--- for each command there is an outcome
-pub any_outcome : (chosen : Option Chosen) (m : Option Folder) (P : Outcome → Type 0) → ((o : Outcome) → P o) → TheOutcome chosen m P
-any_outcome None m P all = the_outcome None m P _ refl (all _)
-any_outcome (Some (Cs res file)) m P all = the_outcome (Some (Cs res file)) m P _ refl (all _)
-any_outcome (Some (Rll lon lat file)) m P all = the_outcome (Some (Rll lon lat file)) m P _ refl (all _)
-any_outcome (Some (Ico res dual file)) m P all = the_outcome (Some (Ico res dual file)) m P _ refl (all _)
-any_outcome (Some (Overlap a b out workers)) m P all = the_outcome (Some (Overlap a b out workers)) m P _ refl (all _)
-any_outcome (Some (OfflineMap in_mesh out_mesh ov_mesh out_map)) m P all = the_outcome (Some (OfflineMap in_mesh out_mesh ov_mesh out_map)) m P _ refl (all _)
-any_outcome (Some (Apply map var in_data out_data masked)) m P all = the_outcome (Some (Apply map var in_data out_data masked)) m P _ refl (all _)
-any_outcome (Some (SelfRun n workers)) m P all = the_outcome (Some (SelfRun n workers)) m P _ refl (all _)
-any_outcome (Some (Coverage a b)) m P all = the_outcome (Some (Coverage a b)) m P _ refl (all _)
-any_outcome (Some (Check file workers)) m P all = the_outcome (Some (Check file workers)) m P _ refl (all _)
+-- the status of a call that came to the outcome is an answer
+answer : (chosen : Option Chosen) (m : Option Folder) (o : Outcome) (reads writes : Type 0) (status : Status) → IsOutcome chosen m o → IsEnd o writes status → IsAnswer chosen m reads writes status
+answer chosen m o reads writes Done is end = the_outcome chosen m _ o is end
+answer chosen m o reads writes Usage is end = the_outcome chosen m _ o is end
+answer chosen m o reads writes NoFile is end = the_outcome chosen m _ o is end
+answer chosen m o reads writes Format is end = the_outcome chosen m _ o is end
+answer chosen m o reads writes Names is end = the_outcome chosen m _ o is end
+answer chosen m o reads writes Mesh is end = the_outcome chosen m _ o is end
+answer chosen m o reads writes Rows is end = the_outcome chosen m _ o is end
+answer chosen m o reads writes Uncovered is end = the_outcome chosen m _ o is end
+answer chosen m o reads writes Limit is end = the_outcome chosen m _ o is end
+answer chosen m o reads writes Field is end = the_outcome chosen m _ o is end
+answer chosen m o reads writes ReadFault is end = absurd end
+answer chosen m o reads writes WriteFault is end = (the_outcome chosen m _ o is end.0, end.1)
+answer chosen m o reads writes NoMemory is end = tt
 
--- what holds of the outcome by what holds of it
-pub outcome_weaker : (chosen : Option Chosen) (m : Option Folder) (P Q : Outcome → Type 0) → ((o : Outcome) → P o → Q o) → TheOutcome chosen m P → TheOutcome chosen m Q
-outcome_weaker chosen m P Q f h = (h.0, h.1, h.2, f h.0 h.3)
+-- and so is its line
+line : (chosen : Option Chosen) (m : Option Folder) (o : Outcome) (text : List ℕ) (writes outs : Type 0) (status : Status) → IsOutcome chosen m o → ((output : Output) → o.output ≡ Some output → output_of chosen ≡ Some output.name)
+    → IsEndLine o text writes outs status → IsLine chosen m text writes outs status
+line chosen m o text writes outs Done is named end = the_outcome chosen m _ o is end
+line chosen m o text writes outs Usage is named end = the_outcome chosen m _ o is end
+line chosen m o text writes outs NoFile is named end = the_outcome chosen m _ o is end
+line chosen m o text writes outs Format is named end = the_outcome chosen m _ o is end
+line chosen m o text writes outs Names is named end = the_outcome chosen m _ o is end
+line chosen m o text writes outs Mesh is named end = the_outcome chosen m _ o is end
+line chosen m o text writes outs Rows is named end = the_outcome chosen m _ o is end
+line chosen m o text writes outs Uncovered is named end = the_outcome chosen m _ o is end
+line chosen m o text writes outs Limit is named end = the_outcome chosen m _ o is end
+line chosen m o text writes outs Field is named end = the_outcome chosen m _ o is end
+line chosen m o text writes outs ReadFault is named end = the_outcome chosen m _ o is end
+line chosen m o text writes outs WriteFault is named end = subst (λ (name : Option (List ℕ)). IsWriteFaultLine name text writes outs) (sym (named end.0 end.1)) end.2
+line chosen m o text writes outs NoMemory is named end = end
 
--- a folder that is as it was
-same_folder : (output : Option Output) (m : Option Folder) → IsPartlyWritten output m m
-same_folder None m = refl
-same_folder (Some output) None = refl
-same_folder (Some output) (Some m) = inl refl
+or_same : {A B C : Type 0} → (B → C) → A ⊎ B → A ⊎ C
+or_same f (inl a) = inl a
+or_same f (inr b) = inr (f b)
 
--- a sink that gained nothing
-same_text : (old : Option (List ℕ)) (text : List ℕ) → GainsPart old old text
-same_text None text = refl
-same_text (Some held) text = (0, ap Some (sym (append-nil held)))
+-- A call that comes to the outcome of the words keeps what is promised.
+pub keeps : (chosen : Option Chosen) (m new : Option Folder) (o : Outcome) (reads writes outs : Type 0) (old_out new_out old_err new_err : Option (List ℕ)) (cause : Type 0) (status : Status)
+    → IsOutcome chosen m o → ((output : Output) → o.output ≡ Some output → output_of chosen ≡ Some output.name)
+    → Ends o m new writes outs old_out new_out old_err new_err cause status → Keeps chosen m new reads writes outs old_out new_out old_err new_err cause status
+keeps chosen m new o reads writes outs old_out new_out old_err new_err cause status is named ends = record {
+  answer = answer chosen m o reads (writes ⊎ outs) status is ends.answer;
+  done_folder = λ h. the_outcome chosen m _ o is (ends.done_folder h);
+  done_text = λ h. the_outcome chosen m _ o is (ends.done_text h);
+  refused_folder = λ h. or_same (λ late. (late.0, the_outcome chosen m _ o is (late.1, late.2))) (ends.refused_folder h);
+  refused_text = λ h. or_same (λ late. (late.0, the_outcome chosen m _ o is (late.1, late.2))) (ends.refused_text h);
+  text_after_file = or_same (the_outcome chosen m _ o is) ends.text_after_file;
+  fault_after_file = λ h. or_same (the_outcome chosen m _ o is) (ends.fault_after_file h);
+  refused_line = λ h. let put = ends.refused_line h in (put.0, line chosen m o put.0 writes outs status is named put.1, put.2);
+}
 
 -- want of memory before any call of a device
-pub keeps_no_memory : (o : Outcome) (m : Option Folder) (reads writes outs : Type 0) (out err new_err : Option (List ℕ)) (cause : Type 0) → GainsLine err new_err (line_of (codes "no memory")) cause → Keeps o m m reads writes outs out out err new_err cause NoMemory
-keeps_no_memory o m reads writes outs out err new_err cause line = record {
-  answer = tt;
-  done_folder = λ h. cc;
-  done_text = λ h. cc;
-  refused_folder = λ _. same_folder o.output m;
-  refused_text = λ _. same_text out o.text;
-  text_after_file = inl refl;
-  fault_after_file = λ h. cc;
-  refused_line = λ _. (line_of (codes "no memory"), refl, line);
-}
+pub keeps_no_memory : (chosen : Option Chosen) (m : Option Folder) (reads writes outs : Type 0) (out err new_err : Option (List ℕ)) (cause : Type 0) (status : Status) → status ≡ NoMemory → GainsLine err new_err (line_of (codes "no memory")) cause
+    → Keeps chosen m m reads writes outs out out err new_err cause status
+keeps_no_memory chosen m reads writes outs out err new_err cause status is put =
+    subst (λ (s : Status). Keeps chosen m m reads writes outs out out err new_err cause s) (sym is) (record {
+      answer = tt;
+      done_folder = λ h. cc;
+      done_text = λ h. cc;
+      refused_folder = λ _. inl refl;
+      refused_text = λ _. inl refl;
+      text_after_file = inl refl;
+      fault_after_file = λ h. cc;
+      refused_line = λ _. (line_of (codes "no memory"), refl, put);
+    })
+
+-- a mesh that was made is refused
+pub keeps_fault : (chosen : Option Chosen) (m : Option Folder) (fault : MeshFault) (reads writes outs : Type 0) (out err new_err : Option (List ℕ)) (cause : Type 0) (status : Status) → IsOutcome chosen m (fault_of_made fault m)
+    → status ≡ Mesh → GainsLine err new_err (fault_of_made fault m).line cause → Keeps chosen m m reads writes outs out out err new_err cause status
+keeps_fault chosen m fault reads writes outs out err new_err cause status is_outcome is put =
+    keeps chosen m m (fault_of_made fault m) reads writes outs out out err new_err cause status is_outcome (λ output e. cc) (
+      subst (λ (s : Status). Ends (fault_of_made fault m) m m writes outs out out err new_err cause s) (sym is) (record {
+        answer = refl;
+        done_folder = λ h. cc;
+        done_text = λ h. cc;
+        refused_folder = λ _. inl refl;
+        refused_text = λ _. inl refl;
+        text_after_file = inl refl;
+        fault_after_file = λ h. cc;
+        refused_line = λ _. ((fault_of_made fault m).line, refl, put);
+      })
+    )
 
 -- words that are out of the grammar
-pub keeps_usage : (m : Option Folder) (reads writes outs : Type 0) (out err new_err : Option (List ℕ)) (cause : Type 0) → GainsLine err new_err (line_of (codes "usage")) cause → Keeps (refusal Usage (codes "usage") m) m m reads writes outs out out err new_err cause Usage
-keeps_usage m reads writes outs out err new_err cause line = record {
-  answer = refl;
-  done_folder = λ h. cc;
-  done_text = λ h. cc;
-  refused_folder = λ _. refl;
-  refused_text = λ _. refl;
-  text_after_file = inl refl;
-  fault_after_file = λ h. cc;
-  refused_line = λ _. (line_of (codes "usage"), refl, line);
-}
-
-pub outcome_no_memory : (chosen : Option Chosen) (m : Option Folder) (reads writes outs : Type 0) (out err new_err : Option (List ℕ)) (cause : Type 0) (status : Status) → status ≡ NoMemory → GainsLine err new_err (line_of (codes "no memory")) cause
-    → TheOutcome chosen m (λ o. Keeps o m m reads writes outs out out err new_err cause status)
-outcome_no_memory chosen m reads writes outs out err new_err cause status is line =
-    any_outcome chosen m (λ o. Keeps o m m reads writes outs out out err new_err cause status)
-    (λ o. subst (λ s. Keeps o m m reads writes outs out out err new_err cause s) (sym is) (keeps_no_memory o m reads writes outs out err new_err cause line))
-
-pub outcome_usage : (chosen : Option Chosen) (m : Option Folder) (reads writes outs : Type 0) (out err new_err : Option (List ℕ)) (cause : Type 0) (status : Status) → is_usage chosen ≡ true → status ≡ Usage → GainsLine err new_err (line_of (codes "usage")) cause
-    → TheOutcome chosen m (λ o. Keeps o m m reads writes outs out out err new_err cause status)
-outcome_usage chosen m reads writes outs out err new_err cause status asked is line =
-    the_outcome chosen m (λ o. Keeps o m m reads writes outs out out err new_err cause status) (refusal Usage (codes "usage") m) (usage_outcome chosen m asked)
-    (subst (λ s. Keeps (refusal Usage (codes "usage") m) m m reads writes outs out out err new_err cause s) (sym is) (keeps_usage m reads writes outs out err new_err cause line))
+pub keeps_usage : (chosen : Option Chosen) (m : Option Folder) (reads writes outs : Type 0) (out err new_err : Option (List ℕ)) (cause : Type 0) (status : Status) → is_usage chosen ≡ true → status ≡ Usage → GainsLine err new_err (line_of (codes "usage")) cause
+    → Keeps chosen m m reads writes outs out out err new_err cause status
+keeps_usage chosen m reads writes outs out err new_err cause status asked is put =
+    let o = refusal Usage (codes "usage") m in
+    keeps chosen m m o reads writes outs out out err new_err cause status (usage_outcome chosen m asked) (λ output e. cc) (
+      subst (λ (s : Status). Ends o m m writes outs out out err new_err cause s) (sym is) (record {
+        answer = refl;
+        done_folder = λ h. cc;
+        done_text = λ h. cc;
+        refused_folder = λ _. inl refl;
+        refused_text = λ _. inl refl;
+        text_after_file = inl refl;
+        fault_after_file = λ h. cc;
+        refused_line = λ _. (o.line, refl, put);
+      })
+    )

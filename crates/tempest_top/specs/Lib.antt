@@ -1,4 +1,5 @@
 pub mod Code
+pub mod Faults
 pub mod Lines
 pub mod Outcome
 pub mod Promises

@@ -1,36 +1,18 @@
 // The top call.
-ghost use Rattle.std.specs.Prelude.{◌≡◌, ◌≢◌, ◌⊎◌, Some, true, MatchOption};
+ghost use Rattle.std.specs.Prelude.{◌≡◌, ◌≢◌, ◌⊎◌, Some, true};
 ghost use Rattle.remap_io.specs.Causes.{Rose};
 ghost use Rattle.remap_io.specs.Held.{Gains};
 ghost use Rattle.command_line.specs.Words.{options_of, texts, HasLimits};
-ghost use Rattle.command_line.specs.declared.choices.Chosen.TheVariants.{Cs};
 ghost use Rattle.tempest_top.specs.Outcome.{TheOutcome, is_usage};
 ghost use Rattle.tempest_top.specs.Promises.{IsAnswer, FolderAfterRefusal, TextAfterRefusal, PutsLine, Keeps};
 
 use crate::Status;
 use crate::finish::{refuse_memory, refuse_usage};
-use crate::generate::generate_cs;
-use command_line::{Chosen, OptFault, Text, options};
+use crate::generate::{generate_cs, generate_rll};
+use command_line::{Chosen, OptFault, options};
 use remap_io::{Files, Sink};
 use std::alloc::Global;
 use std::thread::Threads;
-
-// The cubed sphere that is asked for, or nothing where it is another command.
-fn sphere_asked(chosen: Chosen) -> Option<(u32, Text)>
-    ensures { MatchOption result (is_usage (Some chosen) ≡ true) (λ p. chosen ≡ Cs p.0 p.1) }
-{
-    match chosen {
-        Chosen::Cs { res, file } => Some((res, file)),
-        Chosen::Rll { .. } => None,
-        Chosen::Ico { .. } => None,
-        Chosen::Overlap { .. } => None,
-        Chosen::OfflineMap { .. } => None,
-        Chosen::Apply { .. } => None,
-        Chosen::SelfRun { .. } => None,
-        Chosen::Coverage { .. } => None,
-        Chosen::Check { .. } => None,
-    }
-}
 
 // Runs a command. One that the program doesn't have yet is refused.
 fn run_chosen<F: Files, O: Sink, E: Sink>(
@@ -41,19 +23,26 @@ fn run_chosen<F: Files, O: Sink, E: Sink>(
     err: &mut E,
 ) -> Status
     requires { HasLimits chosen }
-    ensures kept { TheOutcome (Some chosen) (F.folder files.old) (λ o. Keeps o (F.folder files.old) (F.folder files.new)
+    ensures kept { Keeps (Some chosen) (F.folder files.old) (F.folder files.new)
         (Rose (F.faults files.old) (F.faults files.new)) (Rose (F.write_faults files.old) (F.write_faults files.new)) (Rose (O.faults out.old) (O.faults out.new))
         (O.contents out.old) (O.contents out.new) (E.contents err.old) (E.contents err.new)
-        (Rose (E.faults err.old) (E.faults err.new) ⊎ Rose (E.refusals err.old) (E.refusals err.new)) result) }
+        (Rose (E.faults err.old) (E.faults err.new) ⊎ Rose (E.refusals err.old) (E.refusals err.new)) result }
     ensures no_line { result ≡ Status.Done → err.new ≡ err.old }
     ensures no_reads { F.taken files.new ≡ F.taken files.old }
     ensures usage { result ≡ Status.Usage → is_usage (Some chosen) ≡ true }
     ensures usage_only { is_usage (Some chosen) ≡ true → result ≡ Status.Usage }
     ensures only { (result ≢ Status.NoFile) × (result ≢ Status.ReadFault) }
 {
-    match sphere_asked(chosen) {
-        Some((res, file)) => generate_cs(alloc, res, &file, files, out, err),
-        None => refuse_usage(err),
+    match chosen {
+        Chosen::Cs { res, file } => generate_cs(alloc, res, &file, files, out, err),
+        Chosen::Rll { lon, lat, file } => generate_rll(alloc, lon, lat, &file, files, out, err),
+        Chosen::Ico { .. }
+        | Chosen::Overlap { .. }
+        | Chosen::OfflineMap { .. }
+        | Chosen::Apply { .. }
+        | Chosen::SelfRun { .. }
+        | Chosen::Coverage { .. }
+        | Chosen::Check { .. } => refuse_usage(err),
     }
 }
 
@@ -65,10 +54,10 @@ fn run_words<F: Files, O: Sink, E: Sink>(
     out: &mut O,
     err: &mut E,
 ) -> Status
-    ensures kept { TheOutcome (options_of (texts words.now)) (F.folder files.old) (λ o. Keeps o (F.folder files.old) (F.folder files.new)
+    ensures kept { Keeps (options_of (texts words.now)) (F.folder files.old) (F.folder files.new)
         (Rose (F.faults files.old) (F.faults files.new)) (Rose (F.write_faults files.old) (F.write_faults files.new)) (Rose (O.faults out.old) (O.faults out.new))
         (O.contents out.old) (O.contents out.new) (E.contents err.old) (E.contents err.new)
-        (Rose (E.faults err.old) (E.faults err.new) ⊎ Rose (E.refusals err.old) (E.refusals err.new)) result) }
+        (Rose (E.faults err.old) (E.faults err.new) ⊎ Rose (E.refusals err.old) (E.refusals err.new)) result }
     ensures no_line { result ≡ Status.Done → err.new ≡ err.old }
     ensures no_reads { F.taken files.new ≡ F.taken files.old }
     ensures usage { result ≡ Status.Usage → is_usage (options_of (texts words.now)) ≡ true }
@@ -98,8 +87,8 @@ pub fn run<F: Files, O: Sink, E: Sink>(
     err: &mut E,
 ) -> Status
     // The status promise: the status is that of the outcome, or a counted fault, or want of memory.
-    ensures status { TheOutcome (options_of (texts words.now)) (F.folder files.old) (λ o. IsAnswer o (Rose (F.faults files.old) (F.faults files.new))
-        (Rose (F.write_faults files.old) (F.write_faults files.new) ⊎ Rose (O.faults out.old) (O.faults out.new)) result) }
+    ensures status { IsAnswer (options_of (texts words.now)) (F.folder files.old) (Rose (F.faults files.old) (F.faults files.new))
+        (Rose (F.write_faults files.old) (F.write_faults files.new) ⊎ Rose (O.faults out.old) (O.faults out.new)) result }
 
     // The success promise: at Done the folder and the text are those of the outcome, and `err` is as it was.
     ensures done_folder { result ≡ Status.Done → TheOutcome (options_of (texts words.now)) (F.folder files.old) (λ o. F.folder files.new ≡ o.folder) }
@@ -107,16 +96,16 @@ pub fn run<F: Files, O: Sink, E: Sink>(
     ensures done_line { result ≡ Status.Done → err.new ≡ err.old }
 
     // The refusal promise: what a refusal leaves in the folder and in `out`.
-    ensures refused_folder { result ≢ Status.Done → TheOutcome (options_of (texts words.now)) (F.folder files.old) (λ o. FolderAfterRefusal o (F.folder files.old) (F.folder files.new) result) }
-    ensures refused_text { result ≢ Status.Done → TheOutcome (options_of (texts words.now)) (F.folder files.old) (λ o. TextAfterRefusal o (O.contents out.old) (O.contents out.new) result) }
-    ensures text_after_file { TheOutcome (options_of (texts words.now)) (F.folder files.old) (λ o. (O.contents out.new ≡ O.contents out.old) ⊎ (F.folder files.new ≡ o.folder)) }
-    ensures fault_after_file { result ≡ Status.WriteFault → TheOutcome (options_of (texts words.now)) (F.folder files.old)
-        (λ o. Rose (F.write_faults files.old) (F.write_faults files.new) ⊎ (F.folder files.new ≡ o.folder)) }
+    ensures refused_folder { result ≢ Status.Done → FolderAfterRefusal (options_of (texts words.now)) (F.folder files.old) (F.folder files.new) result }
+    ensures refused_text { result ≢ Status.Done → TextAfterRefusal (options_of (texts words.now)) (F.folder files.old) (O.contents out.old) (O.contents out.new) result }
+    ensures text_after_file { (O.contents out.new ≡ O.contents out.old) ⊎ TheOutcome (options_of (texts words.now)) (F.folder files.old) (λ o. F.folder files.new ≡ o.folder) }
+    ensures fault_after_file { result ≡ Status.WriteFault → Rose (F.write_faults files.old) (F.write_faults files.new)
+        ⊎ TheOutcome (options_of (texts words.now)) (F.folder files.old) (λ o. F.folder files.new ≡ o.folder) }
 
     // The message promise: a refusal puts its line, or a prefix of it where `err` counts a refused put.
-    ensures refused_line { result ≢ Status.Done → TheOutcome (options_of (texts words.now)) (F.folder files.old) (λ o. PutsLine o (E.contents err.old) (E.contents err.new)
+    ensures refused_line { result ≢ Status.Done → PutsLine (options_of (texts words.now)) (F.folder files.old) (E.contents err.old) (E.contents err.new)
         (Rose (F.write_faults files.old) (F.write_faults files.new)) (Rose (O.faults out.old) (O.faults out.new))
-        (Rose (E.faults err.old) (E.faults err.new) ⊎ Rose (E.refusals err.old) (E.refusals err.new)) result) }
+        (Rose (E.faults err.old) (E.faults err.new) ⊎ Rose (E.refusals err.old) (E.refusals err.new)) result }
 
     // The cause promise: Usage is answered exactly for words that ask for nothing that the program
     // has, and nothing is read.
