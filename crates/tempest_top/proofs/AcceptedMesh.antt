@@ -1,5 +1,5 @@
 -- What the writer of mesh files needs of an accepted mesh.
-use Rattle.std.proofs.Common.{◌≡◌, ◌≢◌, ◌+◌, ◌*◌, ◌≤◌, ℕ, ℤ, pos, List, [], length, All, ap, arith, slice_index_or, mul-le-mul}
+use Rattle.std.proofs.Common.{◌≢◌, ◌+◌, ◌*◌, ◌≤◌, ℤ, pos, List, [], length, All, ap, arith, slice_index_or, mul-le-mul}
 use Rattle.std.proofs.lemmas.Int.{ints}
 use Rattle.vec_exact.specs.declared.RawMesh.{RawMesh}
 use Rattle.vec_exact.specs.Face.{IsAccepted}

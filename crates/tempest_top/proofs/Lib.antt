@@ -1,4 +1,5 @@
 mod AcceptedMesh
 mod Gaining
+mod Pieces
 mod Written
 pub mod Outcomes

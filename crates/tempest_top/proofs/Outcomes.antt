@@ -1,8 +1,10 @@
 -- A command has at most one outcome, and what is promised of a call that comes to it.
-use Rattle.std.proofs.Common.{◌≡◌, ◌≢◌, ◌⊎◌, ◌∙◌, ℕ, List, true, Option, Some, None, codes, refl, sym, ap, subst, inl, inr}
+use Rattle.std.proofs.Common.{◌≡◌, ◌⊎◌, ◌∙◌, ℕ, List, true, Option, Some, None, option_map, codes, refl, sym, ap, subst, inl, inr}
 use Rattle.vec_exact.specs.declared.RawMesh.{RawMesh}
 use Rattle.remap_io.specs.Folder.{Folder}
 use Rattle.mesh_check.specs.declared.faults.MeshFault.{MeshFault}
+use Rattle.mesh_check.specs.declared.faults.GenFault.{GenFault}
+use Rattle.mesh_check.specs.declared.faults.GenFault.TheVariants.{Mesh as FaultOfMesh, NoMemory as GenNoMemory}
 use Rattle.mesh_check.specs.FirstFault.{IsFirstMeshFault}
 use Rattle.mesh_check.specs.Mesh.{IsAcceptedMesh}
 use Rattle.mesh_check.proofs.FirstFaults.{same_first_fault, no_first_fault}
@@ -11,7 +13,8 @@ use Rattle.command_line.specs.declared.choices.Chosen.TheVariants.{Cs, Rll, Ico,
 use Rattle.tempest_top.specs.declared.status.Status.{Status}
 use Rattle.tempest_top.specs.declared.status.Status.TheVariants.{Done, Usage, NoFile, Format, Names, Mesh, Rows, Uncovered, Limit, Field, ReadFault, WriteFault, NoMemory}
 use Rattle.tempest_top.specs.Lines.{line_of, GainsLine}
-use Rattle.tempest_top.specs.Outcome.{Output, Outcome, IsOutcome, IsOutcomeOfMade, TheOutcome, refusal, fault_of_made, mesh_written, is_usage, output_of}
+use Rattle.tempest_top.specs.Faults.{made_text, status_of_made}
+use Rattle.tempest_top.specs.Outcome.{Output, Outcome, IsOutcome, IsOutcomeOfMade, TheOutcome, refusal, fault_of_made, mesh_output, mesh_written, is_usage, output_of}
 use Rattle.tempest_top.specs.Promises.{IsAnswer, IsLine, IsWriteFaultLine, IsEnd, IsEndLine, Keeps, Ends}
 
 -- what two outcomes are equal to
@@ -110,6 +113,19 @@ keeps chosen m new o reads writes outs old_out new_out old_err new_err cause sta
   refused_line = λ h. let put = ends.refused_line h in (put.0, line chosen m o put.0 writes outs status is named put.1, put.2);
 }
 
+-- the output file of a mesh has the name that was given
+pub mesh_named : (chosen : Option Chosen) (m : Option Folder) (raw : RawMesh) (file : List ℕ) → output_of chosen ≡ Some file → (output : Output) → (mesh_written raw file m).output ≡ Some output → output_of chosen ≡ Some output.name
+unfolding mesh_output
+mesh_named chosen m raw file is output e = is ∙ ap (λ (o : Option Output). option_map (λ (f : Output). f.name) o) e
+
+-- a mesh that was made and is accepted
+pub keeps_made : (chosen : Option Chosen) (m new : Option Folder) (raw made : RawMesh) (file : List ℕ) (reads writes outs : Type 0) (old_out new_out old_err new_err : Option (List ℕ)) (cause : Type 0) (status : Status)
+    → ((o : Outcome) → IsOutcomeOfMade made file m o → IsOutcome chosen m o) → output_of chosen ≡ Some file → raw ≡ made → IsAcceptedMesh made
+    → Ends (mesh_written raw file m) m new writes outs old_out new_out old_err new_err cause status → Keeps chosen m new reads writes outs old_out new_out old_err new_err cause status
+keeps_made chosen m new raw made file reads writes outs old_out new_out old_err new_err cause status outcome name same accepted ends =
+    let is : IsOutcome chosen m (mesh_written raw file m) = outcome _ (subst (λ (r : RawMesh). IsOutcomeOfMade made file m (mesh_written r file m)) (sym same) (accepted_made made file m accepted)) in
+    keeps chosen m new (mesh_written raw file m) reads writes outs old_out new_out old_err new_err cause status is (mesh_named chosen m raw file name) ends
+
 -- want of memory before any call of a device
 pub keeps_no_memory : (chosen : Option Chosen) (m : Option Folder) (reads writes outs : Type 0) (out err new_err : Option (List ℕ)) (cause : Type 0) (status : Status) → status ≡ NoMemory → GainsLine err new_err (line_of (codes "no memory")) cause
     → Keeps chosen m m reads writes outs out out err new_err cause status
@@ -125,22 +141,31 @@ keeps_no_memory chosen m reads writes outs out err new_err cause status is put =
       refused_line = λ _. (line_of (codes "no memory"), refl, put);
     })
 
--- a mesh that was made is refused
-pub keeps_fault : (chosen : Option Chosen) (m : Option Folder) (fault : MeshFault) (reads writes outs : Type 0) (out err new_err : Option (List ℕ)) (cause : Type 0) (status : Status) → IsOutcome chosen m (fault_of_made fault m)
+-- a mesh that was made and is refused
+keeps_fault : (chosen : Option Chosen) (m : Option Folder) (fault : MeshFault) (reads writes outs : Type 0) (out err new_err : Option (List ℕ)) (cause : Type 0) (status : Status) → IsOutcome chosen m (fault_of_made fault m)
     → status ≡ Mesh → GainsLine err new_err (fault_of_made fault m).line cause → Keeps chosen m m reads writes outs out out err new_err cause status
 keeps_fault chosen m fault reads writes outs out err new_err cause status is_outcome is put =
     keeps chosen m m (fault_of_made fault m) reads writes outs out out err new_err cause status is_outcome (λ output e. cc) (
-      subst (λ (s : Status). Ends (fault_of_made fault m) m m writes outs out out err new_err cause s) (sym is) (record {
-        answer = refl;
-        done_folder = λ h. cc;
-        done_text = λ h. cc;
-        refused_folder = λ _. inl refl;
-        refused_text = λ _. inl refl;
-        text_after_file = inl refl;
-        fault_after_file = λ h. cc;
-        refused_line = λ _. ((fault_of_made fault m).line, refl, put);
-      })
+    subst (λ (s : Status). Ends (fault_of_made fault m) m m writes outs out out err new_err cause s) (sym is) (record {
+      answer = refl;
+      done_folder = λ h. cc;
+      done_text = λ h. cc;
+      refused_folder = λ _. inl refl;
+      refused_text = λ _. inl refl;
+      text_after_file = inl refl;
+      fault_after_file = λ h. cc;
+      refused_line = λ _. ((fault_of_made fault m).line, refl, put);
+    })
     )
+
+-- a generator that gave no mesh
+pub keeps_refused : (chosen : Option Chosen) (m : Option Folder) (made : RawMesh) (file : List ℕ) (refused : GenFault) (reads writes outs : Type 0) (out err new_err : Option (List ℕ)) (cause : Type 0) (status : Status)
+    → ((o : Outcome) → IsOutcomeOfMade made file m o → IsOutcome chosen m o) → ((fault : MeshFault) → refused ≡ FaultOfMesh fault → IsFirstMeshFault made fault)
+    → status ≡ status_of_made refused → GainsLine err new_err (line_of (made_text refused)) cause → Keeps chosen m m reads writes outs out out err new_err cause status
+keeps_refused chosen m made file (FaultOfMesh fault) reads writes outs out err new_err cause status outcome first is put =
+    keeps_fault chosen m fault reads writes outs out err new_err cause status (outcome _ (inl (fault, first fault refl, refl))) is put
+keeps_refused chosen m made file GenNoMemory reads writes outs out err new_err cause status outcome first is put =
+    keeps_no_memory chosen m reads writes outs out err new_err cause status is put
 
 -- words that are out of the grammar
 pub keeps_usage : (chosen : Option Chosen) (m : Option Folder) (reads writes outs : Type 0) (out err new_err : Option (List ℕ)) (cause : Type 0) (status : Status) → is_usage chosen ≡ true → status ≡ Usage → GainsLine err new_err (line_of (codes "usage")) cause
@@ -148,14 +173,14 @@ pub keeps_usage : (chosen : Option Chosen) (m : Option Folder) (reads writes out
 keeps_usage chosen m reads writes outs out err new_err cause status asked is put =
     let o = refusal Usage (codes "usage") m in
     keeps chosen m m o reads writes outs out out err new_err cause status (usage_outcome chosen m asked) (λ output e. cc) (
-      subst (λ (s : Status). Ends o m m writes outs out out err new_err cause s) (sym is) (record {
-        answer = refl;
-        done_folder = λ h. cc;
-        done_text = λ h. cc;
-        refused_folder = λ _. inl refl;
-        refused_text = λ _. inl refl;
-        text_after_file = inl refl;
-        fault_after_file = λ h. cc;
-        refused_line = λ _. (o.line, refl, put);
-      })
+    subst (λ (s : Status). Ends o m m writes outs out out err new_err cause s) (sym is) (record {
+      answer = refl;
+      done_folder = λ h. cc;
+      done_text = λ h. cc;
+      refused_folder = λ _. inl refl;
+      refused_text = λ _. inl refl;
+      text_after_file = inl refl;
+      fault_after_file = λ h. cc;
+      refused_line = λ _. (o.line, refl, put);
+    })
     )

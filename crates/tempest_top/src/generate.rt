@@ -14,11 +14,11 @@ ghost use Rattle.tempest_top.specs.Outcome.{mesh_output, mesh_written};
 ghost use Rattle.tempest_top.specs.Promises.{Ends, Keeps};
 
 use crate::Status;
-use crate::faults::refuse_mesh;
+use crate::faults::refuse_made;
 use crate::finish::{refuse_memory, write_then_text};
 use command_line::Text;
 use exodus_mesh::mesh_doc;
-use mesh_check::{GenFault, Mesh};
+use mesh_check::Mesh;
 use nc_write::{EncFault, NcDoc, encode};
 use remap_io::{Files, Sink};
 use std::alloc::Global;
@@ -141,7 +141,6 @@ pub fn generate_rll<F: Files, O: Sink, E: Sink>(
 {
     match gen_rll::make(alloc, lon, lat) {
         Ok(mesh) => write_mesh(alloc, &mesh, file, files, out, err),
-        Err(GenFault::Mesh(fault)) => refuse_mesh(err, "generated", fault),
-        Err(GenFault::NoMemory) => refuse_memory(err),
+        Err(fault) => refuse_made(err, fault),
     }
 }

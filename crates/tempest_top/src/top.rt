@@ -36,13 +36,13 @@ fn run_chosen<F: Files, O: Sink, E: Sink>(
     match chosen {
         Chosen::Cs { res, file } => generate_cs(alloc, res, &file, files, out, err),
         Chosen::Rll { lon, lat, file } => generate_rll(alloc, lon, lat, &file, files, out, err),
-        Chosen::Ico { .. }
-        | Chosen::Overlap { .. }
-        | Chosen::OfflineMap { .. }
-        | Chosen::Apply { .. }
-        | Chosen::SelfRun { .. }
-        | Chosen::Coverage { .. }
-        | Chosen::Check { .. } => refuse_usage(err),
+        Chosen::Ico { .. } => refuse_usage(err),
+        Chosen::Overlap { .. } => refuse_usage(err),
+        Chosen::OfflineMap { .. } => refuse_usage(err),
+        Chosen::Apply { .. } => refuse_usage(err),
+        Chosen::SelfRun { .. } => refuse_usage(err),
+        Chosen::Coverage { .. } => refuse_usage(err),
+        Chosen::Check { .. } => refuse_usage(err),
     }
 }
 

@@ -1,4 +1,4 @@
-use Rattle.std.proofs.Common.{rules, refl, inl, inr, codes}
+use Rattle.std.proofs.Common.{rules, refl, inr, codes}
 use Rattle.tempest_top.specs.Lines.{line_of}
 use Rattle.tempest_top.proofs.Written.{whole_is_part}
 use Rattle.tempest_top.proofs.finish.write_then_text.Goals as goal
