@@ -5,9 +5,9 @@ use Rattle.remap_io.specs.Folder.{Folder}
 use Rattle.mesh_check.specs.declared.faults.MeshFault.{MeshFault}
 use Rattle.mesh_check.specs.declared.faults.GenFault.{GenFault}
 use Rattle.mesh_check.specs.declared.faults.GenFault.TheVariants.{Mesh as FaultOfMesh, NoMemory as GenNoMemory}
-use Rattle.mesh_check.specs.FirstFault.{IsFirstMeshFault}
 use Rattle.mesh_check.specs.Mesh.{IsAcceptedMesh}
 use Rattle.mesh_check.proofs.FirstFaults.{same_first_fault, no_first_fault}
+use Rattle.gen_ico.proofs.One.{one_made as one_icosahedral}
 use Rattle.command_line.specs.declared.choices.Chosen.{Chosen}
 use Rattle.command_line.specs.declared.choices.Chosen.TheVariants.{Cs, Rll, Ico, Overlap, OfflineMap, Apply, SelfRun, Coverage, Check}
 use Rattle.tempest_top.specs.declared.status.Status.{Status}
@@ -32,7 +32,7 @@ pub one_outcome : (chosen : Option Chosen) (m : Option Folder) (o p : Outcome) �
 one_outcome None m o p e f = same o p _ e f
 one_outcome (Some (Cs res file)) m o p e f = same o p _ e f
 one_outcome (Some (Rll lon lat file)) m o p e f = one_made _ file m o p e f
-one_outcome (Some (Ico res dual file)) m o p e f = same o p _ e f
+one_outcome (Some (Ico res dual file)) m o p e f = one_made e.0 file m o p e.2 (subst (λ (raw : RawMesh). IsOutcomeOfMade raw file m p) (one_icosahedral res dual f.0 e.0 f.1 e.1) f.2)
 one_outcome (Some (Overlap a b out workers)) m o p e f = same o p _ e f
 one_outcome (Some (OfflineMap in_mesh out_mesh ov_mesh out_map)) m o p e f = same o p _ e f
 one_outcome (Some (Apply map var in_data out_data masked)) m o p e f = same o p _ e f
@@ -49,7 +49,7 @@ usage_outcome : (chosen : Option Chosen) (m : Option Folder) → is_usage chosen
 usage_outcome None m h = refl
 usage_outcome (Some (Cs res file)) m h = cc
 usage_outcome (Some (Rll lon lat file)) m h = absurd cc
-usage_outcome (Some (Ico res dual file)) m h = refl
+usage_outcome (Some (Ico res dual file)) m h = absurd cc
 usage_outcome (Some (Overlap a b out workers)) m h = refl
 usage_outcome (Some (OfflineMap in_mesh out_mesh ov_mesh out_map)) m h = refl
 usage_outcome (Some (Apply map var in_data out_data masked)) m h = refl
@@ -159,12 +159,12 @@ keeps_fault chosen m fault reads writes outs out err new_err cause status is_out
     )
 
 -- a generator that gave no mesh
-pub keeps_refused : (chosen : Option Chosen) (m : Option Folder) (made : RawMesh) (file : List ℕ) (refused : GenFault) (reads writes outs : Type 0) (out err new_err : Option (List ℕ)) (cause : Type 0) (status : Status)
-    → ((o : Outcome) → IsOutcomeOfMade made file m o → IsOutcome chosen m o) → ((fault : MeshFault) → refused ≡ FaultOfMesh fault → IsFirstMeshFault made fault)
+pub keeps_refused : (chosen : Option Chosen) (m : Option Folder) (refused : GenFault) (reads writes outs : Type 0) (out err new_err : Option (List ℕ)) (cause : Type 0) (status : Status)
+    → ((fault : MeshFault) → refused ≡ FaultOfMesh fault → IsOutcome chosen m (fault_of_made fault m))
     → status ≡ status_of_made refused → GainsLine err new_err (line_of (made_text refused)) cause → Keeps chosen m m reads writes outs out out err new_err cause status
-keeps_refused chosen m made file (FaultOfMesh fault) reads writes outs out err new_err cause status outcome first is put =
-    keeps_fault chosen m fault reads writes outs out err new_err cause status (outcome _ (inl (fault, first fault refl, refl))) is put
-keeps_refused chosen m made file GenNoMemory reads writes outs out err new_err cause status outcome first is put =
+keeps_refused chosen m (FaultOfMesh fault) reads writes outs out err new_err cause status outcome is put =
+    keeps_fault chosen m fault reads writes outs out err new_err cause status (outcome fault refl) is put
+keeps_refused chosen m GenNoMemory reads writes outs out err new_err cause status outcome is put =
     keeps_no_memory chosen m reads writes outs out err new_err cause status is put
 
 -- words that are out of the grammar

@@ -7,6 +7,7 @@ use Rattle.mesh_check.specs.declared.faults.MeshFault.{MeshFault}
 use Rattle.mesh_check.specs.FirstFault.{IsFirstMeshFault}
 use Rattle.gen_cs.specs.CubedSphere.{cubed_sphere}
 use Rattle.gen_rll.specs.LatitudeLongitude.{latitude_longitude}
+use Rattle.gen_ico.specs.Made.{IsMade}
 use Rattle.exodus_mesh.specs.MeshDocument.{mesh_document}
 use Rattle.command_line.specs.declared.choices.Chosen.{Chosen}
 use Rattle.command_line.specs.declared.choices.Chosen.TheVariants.{Cs, Rll, Ico, Overlap, OfflineMap, Apply, SelfRun, Coverage, Check}
@@ -59,6 +60,7 @@ abbrev pub is_usage : Option Chosen → Bool
 is_usage None = true
 is_usage (Some (Cs res file)) = false
 is_usage (Some (Rll lon lat file)) = false
+is_usage (Some (Ico res dual file)) = false
 is_usage (Some c) = true
 
 -- From this command and this folder the program comes to this. Every cubed sphere is accepted, so that it isn't tested.
@@ -66,6 +68,7 @@ abbrev pub IsOutcome : Option Chosen → Option Folder → Outcome → Type 0
 IsOutcome None m o = o ≡ refusal Usage (codes "usage") m
 IsOutcome (Some (Cs res file)) m o = o ≡ mesh_written (cubed_sphere res) file m
 IsOutcome (Some (Rll lon lat file)) m o = IsOutcomeOfMade (latitude_longitude lon lat) file m o
+IsOutcome (Some (Ico res dual file)) m o = (raw : RawMesh) × IsMade res dual raw × IsOutcomeOfMade raw file m o
 IsOutcome (Some c) m o = o ≡ refusal Usage (codes "usage") m
 
 -- there is an outcome with this, and no other outcome

@@ -8,7 +8,7 @@ ghost use Rattle.mesh_check.specs.Mesh.{IsAcceptedMesh};
 ghost use Rattle.mesh_check.specs.FirstFault.{HasFaceSize};
 ghost use Rattle.gen_cs.specs.CubedSphere.{cubed_sphere};
 ghost use Rattle.exodus_mesh.specs.MeshDocument.{mesh_document};
-ghost use Rattle.command_line.specs.declared.choices.Chosen.TheVariants.{Cs, Rll};
+ghost use Rattle.command_line.specs.declared.choices.Chosen.TheVariants.{Cs, Rll, Ico};
 ghost use Rattle.tempest_top.specs.Lines.{mesh_text};
 ghost use Rattle.tempest_top.specs.Outcome.{mesh_output, mesh_written};
 ghost use Rattle.tempest_top.specs.Promises.{Ends, Keeps};
@@ -140,6 +140,33 @@ pub fn generate_rll<F: Files, O: Sink, E: Sink>(
     ensures only { (result ≡ Status.Done) ⊎ ((result ≡ Status.Mesh) ⊎ ((result ≡ Status.WriteFault) ⊎ (result ≡ Status.NoMemory))) }
 {
     match gen_rll::make(alloc, lon, lat) {
+        Ok(mesh) => write_mesh(alloc, &mesh, file, files, out, err),
+        Err(fault) => refuse_made(err, fault),
+    }
+}
+
+/// `GenerateICOMesh`: writes the icosahedral mesh of resolution `res`, or with `dual` its dual, to
+/// `file`, and puts its size, or refuses its first fault.
+pub fn generate_ico<F: Files, O: Sink, E: Sink>(
+    alloc: Global,
+    res: u32,
+    dual: bool,
+    file: &Text,
+    files: &mut F,
+    out: &mut O,
+    err: &mut E,
+) -> Status
+    requires least { 1 ≤ res }
+    requires greatest { res ≤ 200 }
+    ensures kept { Keeps (Some (Ico res dual file.now)) (F.folder files.old) (F.folder files.new)
+        (Rose (F.faults files.old) (F.faults files.new)) (Rose (F.write_faults files.old) (F.write_faults files.new)) (Rose (O.faults out.old) (O.faults out.new))
+        (O.contents out.old) (O.contents out.new) (E.contents err.old) (E.contents err.new)
+        (Rose (E.faults err.old) (E.faults err.new) ⊎ Rose (E.refusals err.old) (E.refusals err.new)) result }
+    ensures no_line { result ≡ Status.Done → err.new ≡ err.old }
+    ensures no_reads { F.taken files.new ≡ F.taken files.old }
+    ensures only { (result ≡ Status.Done) ⊎ ((result ≡ Status.Mesh) ⊎ ((result ≡ Status.WriteFault) ⊎ (result ≡ Status.NoMemory))) }
+{
+    match gen_ico::make(alloc, res, dual) {
         Ok(mesh) => write_mesh(alloc, &mesh, file, files, out, err),
         Err(fault) => refuse_made(err, fault),
     }

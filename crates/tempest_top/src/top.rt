@@ -8,7 +8,7 @@ ghost use Rattle.tempest_top.specs.Promises.{IsAnswer, FolderAfterRefusal, TextA
 
 use crate::Status;
 use crate::finish::{refuse_memory, refuse_usage};
-use crate::generate::{generate_cs, generate_rll};
+use crate::generate::{generate_cs, generate_ico, generate_rll};
 use command_line::{Chosen, OptFault, options};
 use remap_io::{Files, Sink};
 use std::alloc::Global;
@@ -36,7 +36,9 @@ fn run_chosen<F: Files, O: Sink, E: Sink>(
     match chosen {
         Chosen::Cs { res, file } => generate_cs(alloc, res, &file, files, out, err),
         Chosen::Rll { lon, lat, file } => generate_rll(alloc, lon, lat, &file, files, out, err),
-        Chosen::Ico { .. } => refuse_usage(err),
+        Chosen::Ico { res, dual, file } => {
+            generate_ico(alloc, res, dual, &file, files, out, err)
+        }
         Chosen::Overlap { .. } => refuse_usage(err),
         Chosen::OfflineMap { .. } => refuse_usage(err),
         Chosen::Apply { .. } => refuse_usage(err),

@@ -2,11 +2,8 @@ use Rattle.std.proofs.Common.{rules, Some}
 use Rattle.tempest_top.proofs.Outcomes.{keeps_usage}
 use Rattle.tempest_top.proofs.top.run_chosen.Goals as goal
 
-pub returns-in-Ico-clause-kept : goal.returns-in-Ico-clause-kept
-returns-in-Ico-clause-kept g c = keeps_usage (Some c.args.chosen) _ _ _ _ _ _ _ _ _ (search rules) c.refuse_usage.ensures.status c.refuse_usage.ensures.line
-
 pub returns-in-Overlap-clause-kept : goal.returns-in-Overlap-clause-kept
-returns-in-Overlap-clause-kept g c = keeps_usage (Some c.args.chosen) _ _ _ _ _ _ _ _ _ (search rules) c.refuse_usage-in-Overlap.ensures.status c.refuse_usage-in-Overlap.ensures.line
+returns-in-Overlap-clause-kept g c = keeps_usage (Some c.args.chosen) _ _ _ _ _ _ _ _ _ (search rules) c.refuse_usage.ensures.status c.refuse_usage.ensures.line
 
 pub returns-in-OfflineMap-clause-kept : goal.returns-in-OfflineMap-clause-kept
 returns-in-OfflineMap-clause-kept g c = keeps_usage (Some c.args.chosen) _ _ _ _ _ _ _ _ _ (search rules) c.refuse_usage-in-OfflineMap.ensures.status c.refuse_usage-in-OfflineMap.ensures.line
