@@ -67,8 +67,8 @@ fn raw_mesh(alloc: Global, n: u32, dual: bool) -> Result<RawMesh, AllocError>
 /// count from 1.
 ///
 /// The icosahedral mesh has each triangle of an icosahedron divided into n² small triangles, in
-/// all 20 n² faces. Its dual has a node for each of these faces, and for each of their nodes a face
-/// that goes round it: 12 pentagons, else hexagons.
+/// all 20 n² faces. Its dual has a node for each of these faces, half the sum of the three nodes
+/// of the face, and a face for each node of the icosahedral mesh, which goes round that node.
 ///
 /// `Mesh(f)` comes exactly where `f` is the first fault of that mesh, and is never
 /// `Mesh(MeshFault::NoMemory)`. `NoMemory` may come in place of any answer.

@@ -1,0 +1,5 @@
+pub mod Box
+pub mod Candidate
+pub mod Fineness
+pub mod IndexOf
+pub mod Kept
