@@ -4,3 +4,5 @@ mod RowFaults
 mod GoodRows
 mod FoundOverlap
 mod ReadOverlaps
+mod RowsAgain
+mod OverlapAgain

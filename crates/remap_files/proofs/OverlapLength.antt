@@ -46,7 +46,7 @@ pub greatest_count : (pieces : List Piece) → AllByRecursion HasSmallNumbers pi
 greatest_count [] h = omega arith
 greatest_count (p ∷ ps) h = omega (arith, h.0.greatest_size, greatest_count ps h.1, sum_by-cons (λ (q : Piece). length q.ring.items) p ps)
 
-length_planes : (pieces : List Piece) → length (ring_planes_of pieces) ≡ corner_count_of pieces
+pub length_planes : (pieces : List Piece) → length (ring_planes_of pieces) ≡ corner_count_of pieces
 length_planes [] = refl
 length_planes (p ∷ ps) =
     omega (arith, length-append (ring_of p) (ring_planes_of ps), length-map p.ring.items (λ n. pos n), length_planes ps, sum_by-cons (λ (q : Piece). length q.ring.items) p ps)
@@ -56,10 +56,10 @@ length_triples [] = refl
 length_triples (c ∷ cs) = omega (arith, length-append (triple_of c) (flat_map triple_of cs), length_triples cs)
 
 -- there are as many corners as places in a ring
-abbrev HasItsCorners : Piece → Type 0
+abbrev pub HasItsCorners : Piece → Type 0
 HasItsCorners p = length p.corners ≡ length p.ring.items
 
-length_corners : (pieces : List Piece) → AllByRecursion HasItsCorners pieces → length (corners_of pieces) ≡ 3 * corner_count_of pieces
+pub length_corners : (pieces : List Piece) → AllByRecursion HasItsCorners pieces → length (corners_of pieces) ≡ 3 * corner_count_of pieces
 length_corners [] h = refl
 length_corners (p ∷ ps) h =
     omega (arith, h.0, length-append (piece_corners p) (corners_of ps), length_triples p.corners, length_corners ps h.1, sum_by-cons (λ (q : Piece). length q.ring.items) p ps)
@@ -133,7 +133,7 @@ header_is faces_a faces_b p ps = parts_length (overlap_document (parts_of faces_
 
 -- The data.
 
-not_zero : (n : ℕ) → 1 ≤ n → (n == 0) ≡ false
+pub not_zero : (n : ℕ) → 1 ≤ n → (n == 0) ≡ false
 not_zero n h = grind (arith, nat_tests)
 
 -- no file of an overlap is longer than this
