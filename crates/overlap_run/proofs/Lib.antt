@@ -1,0 +1,9 @@
+mod Ascending
+mod Unique
+mod Exactly
+mod BlockSteps
+mod FaceSteps
+mod RunSteps
+mod WholeSteps
+mod RingCorners
+mod ClipCounts
