@@ -2,11 +2,19 @@
 use Rattle.std.specs.Prelude.{◌≡◌, ◌≢◌, ◌⊎◌, ℕ, List, ◌++◌, codes, Option, Some, None, ⊤}
 use Rattle.remap_io.specs.Folder.{Folder, IsPartlyReplaced}
 use Rattle.remap_io.specs.Held.{Gains, GainsPart}
+use Rattle.nc_format.specs.declared.fault.NcFault.{NcFault}
+use Rattle.nc_format.specs.declared.fault.NcFault.TheVariants.{NoMemory as NoHeaderMemory}
+use Rattle.mesh_check.specs.declared.faults.MeshFault.{MeshFault}
+use Rattle.mesh_check.specs.declared.faults.MeshFault.TheVariants.{NoMemory as NoMeshMemory}
+use Rattle.exodus_mesh.specs.declared.ids.NameFault.{NameFault}
+use Rattle.exodus_mesh.specs.declared.ids.NameFault.TheVariants.{NoMemory as NoNameMemory}
 use Rattle.command_line.specs.declared.choices.Chosen.{Chosen}
 use Rattle.tempest_top.specs.declared.status.Status.{Status}
-use Rattle.tempest_top.specs.declared.status.Status.TheVariants.{Done, ReadFault, WriteFault, NoMemory}
+use Rattle.tempest_top.specs.declared.status.Status.TheVariants.{Done, Usage, NoFile, Format, Names, Mesh, Limit, ReadFault, WriteFault, NoMemory}
 use Rattle.tempest_top.specs.Lines.{line_of, GainsLine}
-use Rattle.tempest_top.specs.Outcome.{Outcome, Output, TheOutcome, output_of}
+use Rattle.tempest_top.specs.Faults.{header_fault_text, name_fault_text, mesh_fault_text, length_text, too_many_pieces_text, no_file_text, read_fault_text}
+use Rattle.tempest_top.specs.Inputs.{inputs_of, output_of, IsReached}
+use Rattle.tempest_top.specs.Outcome.{Output, TheOutcome}
 
 -- The status is that of the outcome, or a fault that was counted, or want of memory.
 abbrev pub IsAnswer : Option Chosen → Option Folder → Type 0 → Type 0 → Status → Type 0
@@ -40,18 +48,30 @@ IsWriteFaultLine None line writes outs = ⊥
 IsWriteFaultLine (Some name) line writes outs =
     ((line ≡ line_of (codes "write fault on " ++ name)) × writes) ⊎ ((line ≡ line_of (codes "write fault on output")) × outs)
 
--- the line of a refusal is that of the outcome, or that of a fault or of want of memory
+-- The texts of each status that an outcome can have. They name an input file that is dealt with, the output file, or a mesh that was made.
+abbrev pub IsText : Option Chosen → Option Folder → List ℕ → Status → Type 0
+IsText chosen m text Usage = text ≡ codes "usage"
+IsText chosen m text NoFile = (file : List ℕ) × IsReached (inputs_of chosen) m file × (text ≡ no_file_text file)
+IsText chosen m text Format = (file : List ℕ) × (fault : NcFault) × IsReached (inputs_of chosen) m file × (fault ≢ NoHeaderMemory) × (text ≡ header_fault_text file fault)
+IsText chosen m text Names = (file : List ℕ) × (var : List ℕ) × (fault : NameFault) × IsReached (inputs_of chosen) m file × (fault ≢ NoNameMemory) × (text ≡ name_fault_text file var fault)
+IsText chosen m text Mesh = (file : List ℕ) × (fault : MeshFault) × (IsReached (inputs_of chosen) m file ⊎ (file ≡ codes "generated")) × (fault ≢ NoMeshMemory) × (text ≡ mesh_fault_text file fault)
+IsText chosen m text Limit = ((file : List ℕ) × (n : ℕ) × (IsReached (inputs_of chosen) m file ⊎ (output_of chosen ≡ Some file)) × (text ≡ length_text file n)) ⊎ ((n : ℕ) × (text ≡ too_many_pieces_text n))
+IsText chosen m text status = ⊥
+
+-- The line of a refusal is that of the outcome, with a text of its status, or that of a fault or of want of memory. The file of a
+-- read fault is one before which no input file is at fault.
 abbrev pub IsLine : Option Chosen → Option Folder → List ℕ → Type 0 → Type 0 → Status → Type 0
+IsLine chosen m line writes outs ReadFault = (file : List ℕ) × IsReached (inputs_of chosen) m file × (line ≡ line_of (read_fault_text file))
 IsLine chosen m line writes outs WriteFault = IsWriteFaultLine (output_of chosen) line writes outs
 IsLine chosen m line writes outs NoMemory = line ≡ line_of (codes "no memory")
-IsLine chosen m line writes outs status = TheOutcome chosen m (λ o. line ≡ o.line)
+IsLine chosen m line writes outs status = ((text : List ℕ) × IsText chosen m text status × (line ≡ line_of text)) × TheOutcome chosen m (λ o. line ≡ o.line)
 
 -- The line of the status went out, or a prefix of it and then a cause is counted.
 abbrev pub PutsLine : Option Chosen → Option Folder → Option (List ℕ) → Option (List ℕ) → Type 0 → Type 0 → Type 0 → Status → Type 0
 PutsLine chosen m old new writes outs cause status = (line : List ℕ) × IsLine chosen m line writes outs status × GainsLine old new line cause
 
 -- A call keeps what is promised of the words.
-pub record Keeps (chosen : Option Chosen) (old_folder new_folder : Option Folder) (reads writes outs : Type 0) (old_out new_out old_err new_err : Option (List ℕ)) (cause : Type 0) (status : Status) : Type 0 where
+pub record Keeps (chosen : Option Chosen) (old_folder new_folder : Option Folder) (misses reads writes outs : Type 0) (old_out new_out old_err new_err : Option (List ℕ)) (cause : Type 0) (status : Status) : Type 0 where
   pub answer : IsAnswer chosen old_folder reads (writes ⊎ outs) status
   pub done_folder : status ≡ Done → TheOutcome chosen old_folder (λ o. new_folder ≡ o.folder)
   pub done_text : status ≡ Done → TheOutcome chosen old_folder (λ o. Gains old_out new_out o.text)
@@ -62,27 +82,4 @@ pub record Keeps (chosen : Option Chosen) (old_folder new_folder : Option Folder
   -- and so it has after a write fault that isn't one of the file
   pub fault_after_file : status ≡ WriteFault → writes ⊎ TheOutcome chosen old_folder (λ o. new_folder ≡ o.folder)
   pub refused_line : status ≢ Done → PutsLine chosen old_folder old_err new_err writes outs cause status
-
--- the status of a call that comes to an outcome, unless a write fails or memory runs out
-abbrev pub IsEnd : Outcome → Type 0 → Status → Type 0
-IsEnd o writes ReadFault = ⊥
-IsEnd o writes WriteFault = (o.status ≡ Done) × writes
-IsEnd o writes NoMemory = ⊤
-IsEnd o writes status = o.status ≡ status
-
--- what is put for it to the line
-abbrev pub IsEndLine : Outcome → List ℕ → Type 0 → Type 0 → Status → Type 0
-IsEndLine o line writes outs WriteFault = (output : Output) × (o.output ≡ Some output) × IsWriteFaultLine (Some output.name) line writes outs
-IsEndLine o line writes outs NoMemory = line ≡ line_of (codes "no memory")
-IsEndLine o line writes outs status = line ≡ o.line
-
--- A call that comes to this outcome ends so.
-pub record Ends (o : Outcome) (old_folder new_folder : Option Folder) (writes outs : Type 0) (old_out new_out old_err new_err : Option (List ℕ)) (cause : Type 0) (status : Status) : Type 0 where
-  pub answer : IsEnd o (writes ⊎ outs) status
-  pub done_folder : status ≡ Done → new_folder ≡ o.folder
-  pub done_text : status ≡ Done → Gains old_out new_out o.text
-  pub refused_folder : status ≢ Done → (new_folder ≡ old_folder) ⊎ (IsLate status × (o.status ≡ Done) × IsPartlyWritten o.output old_folder new_folder)
-  pub refused_text : status ≢ Done → (new_out ≡ old_out) ⊎ (IsLate status × (o.status ≡ Done) × GainsPart old_out new_out o.text)
-  pub text_after_file : (new_out ≡ old_out) ⊎ (new_folder ≡ o.folder)
-  pub fault_after_file : status ≡ WriteFault → writes ⊎ (new_folder ≡ o.folder)
-  pub refused_line : status ≢ Done → (line : List ℕ) × IsEndLine o line writes outs status × GainsLine old_err new_err line cause
+  pub no_file : status ≡ NoFile → misses

@@ -3,7 +3,7 @@ ghost use Rattle.std.specs.Prelude.{◌≡◌, ◌≢◌, ◌⊎◌, codes};
 ghost use Rattle.remap_io.specs.Causes.{Rose};
 ghost use Rattle.tempest_top.specs.Lines.{line_of, GainsLine};
 ghost use Rattle.tempest_top.specs.Outcome.{written};
-ghost use Rattle.tempest_top.specs.Promises.{Ends};
+ghost use Rattle.tempest_top.specs.Ends.{Ends};
 
 use crate::Status;
 use crate::lines::put_line;

@@ -11,7 +11,8 @@ ghost use Rattle.exodus_mesh.specs.MeshDocument.{mesh_document};
 ghost use Rattle.command_line.specs.declared.choices.Chosen.TheVariants.{Cs, Rll, Ico};
 ghost use Rattle.tempest_top.specs.Lines.{mesh_text};
 ghost use Rattle.tempest_top.specs.Outcome.{mesh_output, mesh_written};
-ghost use Rattle.tempest_top.specs.Promises.{Ends, Keeps};
+ghost use Rattle.tempest_top.specs.Ends.{Ends};
+ghost use Rattle.tempest_top.specs.Promises.{Keeps};
 
 use crate::Status;
 use crate::faults::refuse_made;
@@ -105,7 +106,7 @@ pub fn generate_cs<F: Files, O: Sink, E: Sink>(
     requires least { 1 ≤ res }
     requires greatest { res ≤ 400 }
     ensures kept { Keeps (Some (Cs res file.now)) (F.folder files.old) (F.folder files.new)
-        (Rose (F.faults files.old) (F.faults files.new)) (Rose (F.write_faults files.old) (F.write_faults files.new)) (Rose (O.faults out.old) (O.faults out.new))
+        (Rose (F.misses files.old) (F.misses files.new)) (Rose (F.faults files.old) (F.faults files.new)) (Rose (F.write_faults files.old) (F.write_faults files.new)) (Rose (O.faults out.old) (O.faults out.new))
         (O.contents out.old) (O.contents out.new) (E.contents err.old) (E.contents err.new)
         (Rose (E.faults err.old) (E.faults err.new) ⊎ Rose (E.refusals err.old) (E.refusals err.new)) result }
     ensures no_line { result ≡ Status.Done → err.new ≡ err.old }
@@ -132,7 +133,7 @@ pub fn generate_rll<F: Files, O: Sink, E: Sink>(
     requires lon { (3 ≤ lon) × (lon ≤ 720) }
     requires lat { (2 ≤ lat) × (lat ≤ 360) }
     ensures kept { Keeps (Some (Rll lon lat file.now)) (F.folder files.old) (F.folder files.new)
-        (Rose (F.faults files.old) (F.faults files.new)) (Rose (F.write_faults files.old) (F.write_faults files.new)) (Rose (O.faults out.old) (O.faults out.new))
+        (Rose (F.misses files.old) (F.misses files.new)) (Rose (F.faults files.old) (F.faults files.new)) (Rose (F.write_faults files.old) (F.write_faults files.new)) (Rose (O.faults out.old) (O.faults out.new))
         (O.contents out.old) (O.contents out.new) (E.contents err.old) (E.contents err.new)
         (Rose (E.faults err.old) (E.faults err.new) ⊎ Rose (E.refusals err.old) (E.refusals err.new)) result }
     ensures no_line { result ≡ Status.Done → err.new ≡ err.old }
@@ -159,7 +160,7 @@ pub fn generate_ico<F: Files, O: Sink, E: Sink>(
     requires least { 1 ≤ res }
     requires greatest { res ≤ 200 }
     ensures kept { Keeps (Some (Ico res dual file.now)) (F.folder files.old) (F.folder files.new)
-        (Rose (F.faults files.old) (F.faults files.new)) (Rose (F.write_faults files.old) (F.write_faults files.new)) (Rose (O.faults out.old) (O.faults out.new))
+        (Rose (F.misses files.old) (F.misses files.new)) (Rose (F.faults files.old) (F.faults files.new)) (Rose (F.write_faults files.old) (F.write_faults files.new)) (Rose (O.faults out.old) (O.faults out.new))
         (O.contents out.old) (O.contents out.new) (E.contents err.old) (E.contents err.new)
         (Rose (E.faults err.old) (E.faults err.new) ⊎ Rose (E.refusals err.old) (E.refusals err.new)) result }
     ensures no_line { result ≡ Status.Done → err.new ≡ err.old }

@@ -6,6 +6,7 @@ mod finish;
 mod generate;
 mod laws;
 mod lines;
+mod pairs;
 mod status;
 mod top;
 

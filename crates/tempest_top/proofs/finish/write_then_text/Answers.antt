@@ -12,7 +12,8 @@ returns-in-Err-Failed-put-clause-ends g c = record {
   refused_text = λ _. inr (tt, refl, c.in-Err-Failed-put.ensures.err);
   text_after_file = inr (search rules);
   fault_after_file = λ _. inr (search rules);
-  refused_line = λ _. (line_of (codes "write fault on output"), (_, refl, inr (refl, search rules)), c.put_line-in-Err-Failed-put.ensures.line);
+  refused_line = search rules;
+  fault_line = λ _. (_, line_of (codes "write fault on output"), refl, inr (refl, search rules), c.put_line-in-Err-Failed-put.ensures.line);
 }
 
 pub returns-in-Err-NoMemory-put-clause-ends : goal.returns-in-Err-NoMemory-put-clause-ends
@@ -24,5 +25,6 @@ returns-in-Err-NoMemory-put-clause-ends g c = record {
   refused_text = λ _. inr (tt, refl, c.in-Err-NoMemory-put.ensures.err);
   text_after_file = inr (search rules);
   fault_after_file = search rules;
-  refused_line = λ _. (line_of (codes "no memory"), refl, c.put_line-in-Err-NoMemory-put.ensures.line);
+  refused_line = λ _ _. (line_of (codes "no memory"), refl, c.put_line-in-Err-NoMemory-put.ensures.line);
+  fault_line = search rules;
 }

@@ -15,6 +15,8 @@ returns g c =
       refused_line = kept.refused_line;
       usage = c.run_words.ensures.usage;
       usage_only = c.run_words.ensures.usage_only;
-      no_reads = c.run_words.ensures.only;
-      bytes_read = c.run_words.ensures.no_reads;
+      no_file = kept.no_file;
+      no_reads = c.run_words.ensures.no_reads;
+      bytes_read = c.run_words.ensures.bytes_read;
+      no_bytes = c.run_words.ensures.no_bytes;
     }
