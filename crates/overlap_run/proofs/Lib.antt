@@ -1,5 +1,5 @@
 mod Ascending
-mod Unique
+pub mod Unique
 mod Exactly
 mod BlockSteps
 mod FaceSteps
