@@ -2,11 +2,19 @@
 #![tactic(auto)]
 
 #[cfg(test)]
+mod damaged;
+#[cfg(test)]
 mod failing;
 #[cfg(test)]
 mod generators;
 #[cfg(test)]
 mod machine;
+#[cfg(test)]
+mod meshes;
+#[cfg(test)]
+mod overlaps;
+#[cfg(test)]
+mod reading;
 #[cfg(test)]
 mod rings;
 #[cfg(test)]
