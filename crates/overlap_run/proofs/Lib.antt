@@ -1,0 +1,10 @@
+mod Ascending
+mod Unique
+mod Exactly
+mod BlockSteps
+mod FaceSteps
+mod RunSteps
+mod WholeSteps
+mod RingCorners
+mod Targets
+mod ClipCounts

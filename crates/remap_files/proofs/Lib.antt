@@ -1,0 +1,6 @@
+pub mod OverlapLength
+mod Triples
+mod RowFaults
+mod GoodRows
+mod FoundOverlap
+mod ReadOverlaps

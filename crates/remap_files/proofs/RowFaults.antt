@@ -1,0 +1,160 @@
+-- The first row at fault.
+use Rattle.std.proofs.Common.{◌≡◌, ◌<◌, ◌≤◌, ◌+◌, ◌*◌, ◌⊎◌, inl, inr, ℕ, zero, suc, ℤ, pos, Bool, true, false, not, cond, ltb, List, [], ◌∷◌, length, take, map, ◌≢◌, ◌==◌, if◌then◌else◌, Option, Some, None, Ok, Err, refl, ap, sym, subst, ◌∙◌, arith, unsigned_abs, slice_index_or}
+use Rattle.std.specs.List.{position_from, range_with_len, sum_by}
+use Rattle.std.proofs.lemmas.Bool.{lt-ltb, le-ltb}
+use Rattle.std.proofs.lemmas.Bool.Decides.{nat_tests}
+use Rattle.std.proofs.lemmas.Iterator.Adapters.{position_from-zero}
+use Rattle.std.proofs.lemmas.List.Sums.{sum_by_push}
+use Rattle.std.proofs.Math.Seq.{take-suc}
+use Rattle.remap_files.specs.declared.vars.OverlapVars.{OverlapVars}
+use Rattle.remap_files.specs.declared.faults.FileFault.TheVariants.{Row}
+use Rattle.remap_files.specs.OverlapRows.{Columns, columns_of, ring_begin, ring_len, is_good_row, first_fault, rest_fault, row_fault, unless_fault, overlap_at, overlap_of, overlap_lens, piece_at}
+use Rattle.remap_files.specs.Rows.{HasFiveLists}
+
+-- the first number that is not good, of so many from i on
+bad_from : (good : ℕ → Bool) (i n r : ℕ) → r < n → ((k : ℕ) → k < r → good (i + k) ≡ true) → good (i + r) ≡ false → position_from (λ k. not (good k)) i (range_with_len i n) ≡ Some (i + r)
+bad_from good i zero r below before bad = absurd (omega (arith, below))
+bad_from good i (suc m) zero below before bad =
+    let at : i + 0 ≡ i = omega arith in
+    let here : good i ≡ false = subst (λ j. good j ≡ false) at bad in
+    ap (λ b. cond (not b) (Some i) (position_from (λ k. not (good k)) (i + 1) (range_with_len (i + 1) m))) here ∙ ap (λ j. Some j) (sym at)
+bad_from good i (suc m) (suc q) below before bad =
+    let at : i + 0 ≡ i = omega arith in
+    let here : good i ≡ true = subst (λ j. good j ≡ true) at (before 0 (omega arith)) in
+    let behind : i + suc q ≡ i + 1 + q = omega arith in
+    ap (λ b. cond (not b) (Some i) (position_from (λ k. not (good k)) (i + 1) (range_with_len (i + 1) m))) here
+    ∙ bad_from good (i + 1) m q (omega (arith, below)) (λ k le. subst (λ j. good j ≡ true) (next k) (before (suc k) (omega (arith, le)))) (subst (λ j. good j ≡ false) behind bad)
+    ∙ ap (λ j. Some j) (sym behind)
+  where
+    next : (k : ℕ) → i + suc k ≡ i + 1 + k
+    next k = omega arith
+
+none_from : (good : ℕ → Bool) (i n : ℕ) → ((k : ℕ) → k < n → good (i + k) ≡ true) → position_from (λ k. not (good k)) i (range_with_len i n) ≡ None
+none_from good i zero all = refl
+none_from good i (suc m) all =
+    let at : i + 0 ≡ i = omega arith in
+    let here : good i ≡ true = subst (λ j. good j ≡ true) at (all 0 (omega arith)) in
+    ap (λ b. cond (not b) (Some i) (position_from (λ k. not (good k)) (i + 1) (range_with_len (i + 1) m))) here
+    ∙ none_from good (i + 1) m (λ k below. subst (λ j. good j ≡ true) (next k) (all (suc k) (omega (arith, below))))
+  where
+    next : (k : ℕ) → i + suc k ≡ i + 1 + k
+    next k = omega arith
+
+first_is_good : (b : Bool) (i : ℕ) (rest : Option ℕ) → cond (not b) (Some i) rest ≡ None → (b ≡ true) × (rest ≡ None)
+first_is_good true i rest h = (refl, h)
+first_is_good false i rest h = absurd cc
+
+all_from : (good : ℕ → Bool) (i n : ℕ) → position_from (λ k. not (good k)) i (range_with_len i n) ≡ None → (k : ℕ) → k < n → good (i + k) ≡ true
+all_from good i zero none k below = absurd (omega (arith, below))
+all_from good i (suc m) none zero below =
+    let at : i ≡ i + 0 = omega arith in
+    subst (λ j. good j ≡ true) at (first_is_good (good i) i (position_from (λ k. not (good k)) (i + 1) (range_with_len (i + 1) m)) none).0
+all_from good i (suc m) none (suc k) below =
+    let rest = (first_is_good (good i) i (position_from (λ k. not (good k)) (i + 1) (range_with_len (i + 1) m)) none).1 in
+    let next : i + 1 + k ≡ i + suc k = omega arith in
+    subst (λ j. good j ≡ true) next (all_from good (i + 1) m rest k (omega (arith, below)))
+
+from_none : (k : ℕ) → 0 + k ≡ k
+from_none k = omega arith
+
+-- rows up to a number are at no fault
+abbrev pub AreGood : OverlapVars → Columns → ℕ → Type 0
+AreGood v c n = (k : ℕ) → k < n → is_good_row v.faces_a v.faces_b c k ≡ true
+
+pub one_more_good : (v : OverlapVars) (c : Columns) (r : ℕ) → AreGood v c r → is_good_row v.faces_a v.faces_b c r ≡ true → AreGood v c (r + 1)
+one_more_good v c r before here k below =
+    elim (less_or_same k r (omega (arith, below))) [
+      | inl less ↦ before k less
+      | inr same ↦ subst (λ j. is_good_row v.faces_a v.faces_b c j ≡ true) (sym same) here
+    ]
+  where
+    less_or_same : (k r : ℕ) → k ≤ r → (k < r) ⊎ (k ≡ r)
+    less_or_same k r le = grind arith
+
+pub row_is_bad : (v : OverlapVars) (c : Columns) (r : ℕ) → r < v.pieces → AreGood v c r → is_good_row v.faces_a v.faces_b c r ≡ false → row_fault v c ≡ Some (r + 1)
+unfolding row_fault
+row_is_bad v c r below before bad =
+    let good : ℕ → Bool = λ k. is_good_row v.faces_a v.faces_b c k in
+    ap (λ o. first_fault v.pieces c o) (position_from-zero (λ k. not (good k)) (range_with_len 0 v.pieces) ∙ bad_from good 0 v.pieces r below (λ k le. subst (λ j. good j ≡ true) (sym (from_none k)) (before k le)) (subst (λ j. good j ≡ false) (sym (from_none r)) bad) ∙ ap (λ j. Some j) (from_none r))
+
+no_bad_row : (v : OverlapVars) (c : Columns) → AreGood v c v.pieces → row_fault v c ≡ rest_fault v.pieces c
+unfolding row_fault
+no_bad_row v c all =
+    let good : ℕ → Bool = λ k. is_good_row v.faces_a v.faces_b c k in
+    ap (λ o. first_fault v.pieces c o) (position_from-zero (λ k. not (good k)) (range_with_len 0 v.pieces) ∙ none_from good 0 v.pieces (λ k le. subst (λ j. good j ≡ true) (sym (from_none k)) (all k le)))
+
+pub rest_is_bad : (v : OverlapVars) (c : Columns) → AreGood v c v.pieces → ring_begin c.ring_size v.pieces < length c.ring_plane → row_fault v c ≡ Some v.pieces
+rest_is_bad v c all past = no_bad_row v c all ∙ ap (λ b. cond b (Some v.pieces) None) (lt-ltb (ring_begin c.ring_size v.pieces) (length c.ring_plane) past)
+
+pub no_fault : (v : OverlapVars) (c : Columns) → AreGood v c v.pieces → length c.ring_plane ≤ ring_begin c.ring_size v.pieces → row_fault v c ≡ None
+no_fault v c all whole = no_bad_row v c all ∙ ap (λ b. cond b (Some v.pieces) None) (le-ltb (ring_begin c.ring_size v.pieces) (length c.ring_plane) whole)
+
+first_none : (pieces : ℕ) (c : Columns) (o : Option ℕ) → first_fault pieces c o ≡ None → o ≡ None
+first_none pieces c (Some r) h = absurd cc
+first_none pieces c None h = refl
+
+-- where no row is at fault all rows are good
+pub all_are_good : (v : OverlapVars) (c : Columns) → row_fault v c ≡ None → AreGood v c v.pieces
+unfolding row_fault
+all_are_good v c none k below =
+    let good : ℕ → Bool = λ k. is_good_row v.faces_a v.faces_b c k in
+    subst (λ j. good j ≡ true) (from_none k) (all_from good 0 v.pieces (sym (position_from-zero (λ k. not (good k)) (range_with_len 0 v.pieces)) ∙ first_none v.pieces c _ none) k below)
+
+pub fault_is : (v : OverlapVars) (values : List (List ℤ)) (r : ℕ) → row_fault v (columns_of values) ≡ Some r → overlap_of v values ≡ Err (Row r)
+unfolding overlap_of
+fault_is v values r h = ap (λ o. unless_fault o (overlap_at v (columns_of values))) h
+
+pub overlap_is : (v : OverlapVars) (values : List (List ℤ)) → row_fault v (columns_of values) ≡ None → overlap_of v values ≡ Ok (overlap_at v (columns_of values))
+unfolding overlap_of
+overlap_is v values h = ap (λ o. unless_fault o (overlap_at v (columns_of values))) h
+
+-- the next ring begins where this one ends
+pub next_begin : (ring_size : List ℤ) (r : ℕ) → r < length ring_size → ring_begin ring_size (r + 1) ≡ ring_begin ring_size r + ring_len ring_size r
+unfolding ring_begin
+next_begin ring_size r below =
+    let at : r + 1 ≡ suc r = omega arith in
+    ap (λ k. sum_by unsigned_abs (take k ring_size)) at
+    ∙ ap (sum_by unsigned_abs) (take-suc ring_size r (pos 0) below)
+    ∙ sum_by_push unsigned_abs (take r ring_size) (slice_index_or ring_size r (pos 0))
+
+pub first_begin : (ring_size : List ℤ) → ring_begin ring_size 0 ≡ 0
+unfolding ring_begin
+first_begin ring_size = refl
+
+-- without a row there is no fault and no piece
+pub no_rows : (v : OverlapVars) (values : List (List ℤ)) → v.pieces ≡ 0 → map length values ≡ overlap_lens v → overlap_of v values ≡ Ok (record { faces_a = v.faces_a; faces_b = v.faces_b; pieces = [] })
+no_rows v values none lens =
+    let empty : values ≡ [] = no_lists values (lens ∙ ap (λ b. if b then [] else (v.pieces ∷ v.pieces ∷ v.pieces ∷ v.corners ∷ 3 * v.corners ∷ [])) (is_zero v.pieces none)) in
+    let all : AreGood v (columns_of values) v.pieces = λ k below. absurd (omega (arith, below, none)) in
+    let whole : length (columns_of values).ring_plane ≤ ring_begin (columns_of values).ring_size v.pieces = rw empty (omega arith) in
+    overlap_is v values (no_fault v (columns_of values) all whole)
+    ∙ ap (λ n. Ok (record { faces_a = v.faces_a; faces_b = v.faces_b; pieces = map (piece_at (columns_of values)) (range_with_len 0 n) })) none
+  where
+    no_lists : (l : List (List ℤ)) → map length l ≡ [] → l ≡ []
+    no_lists [] h = refl
+    no_lists (x ∷ xs) h = absurd cc
+    is_zero : (n : ℕ) → n ≡ 0 → (n == 0) ≡ true
+    is_zero n h = grind (arith, nat_tests)
+
+some_rows : (n : ℕ) → n ≢ 0 → (n == 0) ≡ false
+some_rows n h = grind (arith, nat_tests)
+
+five : (v : OverlapVars) (values : List (List ℤ)) → map length values ≡ v.pieces ∷ v.pieces ∷ v.pieces ∷ v.corners ∷ 3 * v.corners ∷ [] → HasFiveLists v values
+five v [] h = absurd cc
+five v (a ∷ []) h = absurd cc
+five v (a ∷ b ∷ []) h = absurd cc
+five v (a ∷ b ∷ c ∷ []) h = absurd cc
+five v (a ∷ b ∷ c ∷ d ∷ []) h = absurd cc
+five v (a ∷ b ∷ c ∷ d ∷ e ∷ []) h = record {
+  count = refl;
+  source = ap (λ l. slice_index_or l 0 0) h;
+  target = ap (λ l. slice_index_or l 1 0) h;
+  ring_size = ap (λ l. slice_index_or l 2 0) h;
+  ring_plane = ap (λ l. slice_index_or l 3 0) h;
+  corner = ap (λ l. slice_index_or l 4 0) h;
+}
+five v (a ∷ b ∷ c ∷ d ∷ e ∷ f ∷ more) h = absurd cc
+
+-- with a piece there are five lists
+pub five_lists : (v : OverlapVars) (values : List (List ℤ)) → v.pieces ≢ 0 → map length values ≡ overlap_lens v → HasFiveLists v values
+five_lists v values some lens = five v values (lens ∙ ap (λ b. if b then [] else (v.pieces ∷ v.pieces ∷ v.pieces ∷ v.corners ∷ 3 * v.corners ∷ [])) (some_rows v.pieces some))

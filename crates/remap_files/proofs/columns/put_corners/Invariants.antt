@@ -1,0 +1,7 @@
+use Rattle.std.proofs.Common.{◌≡◌, ◌++◌, take}
+use Rattle.std.specs.List.{flat_map}
+use Rattle.remap_files.specs.OverlapDocument.{triple_of}
+use Rattle.remap_files.proofs.columns.put_corners.Given as goal
+
+abbrev pub invariant-loop-corner : goal.invariant-loop-corner
+invariant-loop-corner l = l.values.items ≡ l.fn.values.items ++ flat_map triple_of (take l.corner-index l.corners)

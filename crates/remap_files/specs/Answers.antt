@@ -1,0 +1,29 @@
+-- What a call answers that reads a file, where it may want memory.
+use Rattle.std.specs.Prelude.{◌≡◌, ◌≢◌, Result, Err}
+use Rattle.exodus_mesh.specs.declared.ids.NameFault.TheVariants as names
+use Rattle.remap_files.specs.declared.faults.FileFault.{FileFault}
+use Rattle.remap_files.specs.declared.faults.FileFault.TheVariants.{Name, Row, AreaA, AreaB, NoMemory}
+
+-- a fault that was answered is what was to be answered, unless memory ran out, which is said by NoMemory alone
+abbrev pub Refuses : {Y : Type 0} → FileFault → Result Y FileFault → Type 0
+Refuses (Name fault) answer = (answer ≡ Err (Name fault)) × (fault ≢ names.NoMemory)
+Refuses (Row r) answer = answer ≡ Err (Row r)
+Refuses (AreaA i) answer = answer ≡ Err (AreaA i)
+Refuses (AreaB j) answer = answer ≡ Err (AreaB j)
+Refuses NoMemory answer = Unit {0}
+
+-- neither a name nor an area is at fault
+abbrev pub IsOfRows : FileFault → Type 0
+IsOfRows (Name fault) = ⊥
+IsOfRows (Row r) = Unit {0}
+IsOfRows (AreaA i) = ⊥
+IsOfRows (AreaB j) = ⊥
+IsOfRows NoMemory = Unit {0}
+
+-- no area is at fault
+abbrev pub IsOfNamesOrRows : FileFault → Type 0
+IsOfNamesOrRows (Name fault) = Unit {0}
+IsOfNamesOrRows (Row r) = Unit {0}
+IsOfNamesOrRows (AreaA i) = ⊥
+IsOfNamesOrRows (AreaB j) = ⊥
+IsOfNamesOrRows NoMemory = Unit {0}

@@ -1,0 +1,8 @@
+pub mod OverlapDocument
+pub mod Written
+pub mod Answers
+pub mod OverlapNames
+pub mod OverlapRows
+pub mod OverlapIn
+pub mod Rows
+pub mod Found

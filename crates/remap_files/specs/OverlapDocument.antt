@@ -1,0 +1,99 @@
+-- The document of an overlap, and how long its file is. The whole form is our own.
+use Rattle.std.specs.Prelude.{ℕ, ◌+◌, ◌*◌, ◌==◌, ℤ, pos, List, [], ◌∷◌, length, map, All, if◌then◌else◌, slice_index_or, codes, ◌≡◌, FitsSigned}
+use Rattle.std.specs.List.{flat_map, sum_by}
+use Rattle.std.specs.Int.{w32}
+use Rattle.clip.specs.declared.pieces.Piece.{Piece}
+use Rattle.clip.specs.Overlaps.{OverlapParts}
+use Rattle.nc_write.specs.declared.NcDoc.{NcDoc}
+use Rattle.nc_write.specs.declared.DocDim.{DocDim}
+use Rattle.nc_write.specs.declared.DocAtt.{DocAtt}
+use Rattle.nc_write.specs.declared.DocVar.{DocVar}
+use Rattle.nc_write.specs.declared.Values.{Values}
+use Rattle.nc_write.specs.declared.Values.TheVariants.{Byte, Int}
+use Rattle.nc_write.specs.Extents.{rounded}
+use Rattle.exodus_mesh.specs.MeshDocument.{dimension_of}
+
+abbrev pub attribute_of : List ℕ → ℕ → DocAtt
+attribute_of name value = record { name = name; value = pos value }
+
+abbrev pub variable_of : List ℕ → List ℕ → Values → DocVar
+variable_of name dims values = record { name = name; dims = dims; values = values }
+
+-- the source faces, the target faces and the lengths of the rings, piece by piece
+abbrev pub sources_of : List Piece → List ℤ
+sources_of pieces = map (λ (p : Piece). pos p.a) pieces
+
+abbrev pub targets_of : List Piece → List ℤ
+targets_of pieces = map (λ (p : Piece). pos p.b) pieces
+
+abbrev pub ring_sizes_of : List Piece → List ℤ
+ring_sizes_of pieces = map (λ (p : Piece). pos (length p.ring.items)) pieces
+
+-- all rings, one after another
+abbrev pub ring_of : Piece → List ℤ
+ring_of p = map (λ n. pos n) p.ring.items
+
+abbrev pub ring_planes_of : List Piece → List ℤ
+ring_planes_of pieces = flat_map ring_of pieces
+
+-- the x, the y and the z of each corner, one corner after another
+abbrev pub triple_of : List ℤ → List ℤ
+triple_of c = slice_index_or c 0 (pos 0) ∷ slice_index_or c 1 (pos 0) ∷ slice_index_or c 2 (pos 0) ∷ []
+
+abbrev pub piece_corners : Piece → List ℤ
+piece_corners p = flat_map triple_of p.corners
+
+abbrev pub corners_of : List Piece → List ℤ
+corners_of pieces = flat_map piece_corners pieces
+
+-- how many places all rings have together
+abbrev pub corner_count_of : List Piece → ℕ
+corner_count_of pieces = sum_by (λ (p : Piece). length p.ring.items) pieces
+
+-- a dimension of length 0 would be the record dimension: without a piece there is no dimension and no variable
+abbrev pub if_some : {A : Type 0} → List Piece → List A → List A
+if_some [] items = []
+if_some (p ∷ ps) items = items
+
+abbrev pub overlap_atts : ℕ → ℕ → ℕ → List DocAtt
+overlap_atts faces_a faces_b pieces =
+    attribute_of (codes "faces_a") faces_a
+    ∷ attribute_of (codes "faces_b") faces_b
+    ∷ attribute_of (codes "pieces") pieces
+    ∷ []
+
+abbrev pub overlap_dims : ℕ → ℕ → List DocDim
+overlap_dims pieces corners =
+    dimension_of (codes "num_pieces") pieces
+    ∷ dimension_of (codes "num_corners") corners
+    ∷ dimension_of (codes "num_dim") 3
+    ∷ []
+
+abbrev pub overlap_vars : List Piece → List DocVar
+overlap_vars pieces =
+    variable_of (codes "source") (0 ∷ []) (Int (sources_of pieces))
+    ∷ variable_of (codes "target") (0 ∷ []) (Int (targets_of pieces))
+    ∷ variable_of (codes "ring_size") (0 ∷ []) (Byte (ring_sizes_of pieces))
+    ∷ variable_of (codes "ring_plane") (1 ∷ []) (Byte (ring_planes_of pieces))
+    ∷ variable_of (codes "corner") (1 ∷ 2 ∷ []) (Int (corners_of pieces))
+    ∷ []
+
+unfoldable pub overlap_document : OverlapParts → NcDoc
+overlap_document o = record {
+  records = 0;
+  dims = if_some o.pieces (overlap_dims (length o.pieces) (corner_count_of o.pieces));
+  atts = overlap_atts o.faces_a o.faces_b (length o.pieces);
+  vars = if_some o.pieces (overlap_vars o.pieces);
+}
+
+-- the length of the file of an overlap, by its counts of pieces and of corners: the header, then the five variables,
+-- each filled up to a multiple of 4 bytes
+abbrev pub overlap_file_len : ℕ → ℕ → ℕ
+overlap_file_len pieces corners = if pieces == 0 then 104 else 392 + 4 * pieces + 4 * pieces + rounded pieces + rounded corners + 12 * corners
+
+-- each corner is three numbers of 32 bits, as it is in every overlap of a program
+abbrev pub IsCorner : List ℤ → Type 0
+IsCorner c = (length c ≡ 3) × All (FitsSigned w32) c
+
+abbrev pub HasCorners : OverlapParts → Type 0
+HasCorners o = All (λ (p : Piece). All IsCorner p.corners) o.pieces

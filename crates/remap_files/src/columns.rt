@@ -1,0 +1,90 @@
+// The numbers of the variables of an overlap, one list for each variable.
+ghost use Rattle.std.specs.Prelude.{◌≡◌, ◌<◌, ◌*◌, ◌^◌, ◌++◌, IfOk, OnOk, All, map, flat_map, pos};
+ghost use Rattle.remap_files.specs.Written.{HasSmallNumbers};
+ghost use Rattle.clip.specs.Overlaps.{IsRingNumber};
+ghost use Rattle.remap_files.specs.OverlapDocument.{sources_of, targets_of, ring_sizes_of, ring_of, ring_planes_of, triple_of, piece_corners, corners_of};
+
+use clip::Piece;
+use std::alloc::{AllocError, Global};
+
+pub fn sources(alloc: Global, pieces: &[Piece]) -> Result<Vec<i32>, AllocError>
+    requires { All HasSmallNumbers pieces.now }
+    ensures { IfOk result (λ values. values.items ≡ sources_of pieces.now) }
+{
+    let mut values = Vec::with_capacity(alloc, pieces.len())?;
+    for piece in pieces {
+        values.push(piece.a as i32)?;
+    }
+    Ok(values)
+}
+
+pub fn targets(alloc: Global, pieces: &[Piece]) -> Result<Vec<i32>, AllocError>
+    requires { All HasSmallNumbers pieces.now }
+    ensures { IfOk result (λ values. values.items ≡ targets_of pieces.now) }
+{
+    let mut values = Vec::with_capacity(alloc, pieces.len())?;
+    for piece in pieces {
+        values.push(piece.b as i32)?;
+    }
+    Ok(values)
+}
+
+pub fn ring_sizes(alloc: Global, pieces: &[Piece]) -> Result<Vec<i8>, AllocError>
+    ensures { IfOk result (λ values. values.items ≡ ring_sizes_of pieces.now) }
+{
+    let mut values = Vec::with_capacity(alloc, pieces.len())?;
+    for piece in pieces {
+        values.push(piece.ring.len() as i8)?;
+    }
+    Ok(values)
+}
+
+fn put_ring(values: &mut Vec<i8>, ring: &[u8]) -> Result<(), AllocError>
+    requires { All IsRingNumber ring.now }
+    ensures { OnOk result (values.new.items ≡ values.old.items ++ map (λ n. pos n) ring.now) }
+{
+    for number in ring {
+        values.push(*number as i8)?;
+    }
+    Ok(())
+}
+
+pub fn ring_planes(alloc: Global, pieces: &[Piece], count: usize) -> Result<Vec<i8>, AllocError>
+    requires { All HasSmallNumbers pieces.now }
+    ensures { IfOk result (λ values. values.items ≡ ring_planes_of pieces.now) }
+{
+    let mut values = Vec::with_capacity(alloc, count)?;
+    for piece in pieces {
+        put_ring(&mut values, piece.ring.as_slice())?;
+    }
+    Ok(values)
+}
+
+fn put_corner(values: &mut Vec<i32>, corner: &[i32; 3]) -> Result<(), AllocError>
+    ensures { OnOk result (values.new.items ≡ values.old.items ++ triple_of corner.now) }
+{
+    values.push(corner[0])?;
+    values.push(corner[1])?;
+    values.push(corner[2])?;
+    Ok(())
+}
+
+fn put_corners(values: &mut Vec<i32>, corners: &[[i32; 3]]) -> Result<(), AllocError>
+    ensures { OnOk result (values.new.items ≡ values.old.items ++ flat_map triple_of corners.now) }
+{
+    for corner in corners {
+        put_corner(values, corner)?;
+    }
+    Ok(())
+}
+
+pub fn corners(alloc: Global, pieces: &[Piece], count: usize) -> Result<Vec<i32>, AllocError>
+    requires { 3 * count < 2 ^ 63 }
+    ensures { IfOk result (λ values. values.items ≡ corners_of pieces.now) }
+{
+    let mut values = Vec::with_capacity(alloc, 3 * count)?;
+    for piece in pieces {
+        put_corners(&mut values, piece.corners.items.as_slice())?;
+    }
+    Ok(values)
+}

@@ -1,0 +1,78 @@
+// The overlap of a whole file.
+ghost use Rattle.std.specs.Prelude.{◌≡◌, ◌≢◌, ◌++◌, ◌∷◌, [], ℕ, List, length, All, IfOk, IfErr, OnOk, Ok};
+ghost use Rattle.nc_format.specs.Header.{IsHeader};
+ghost use Rattle.exodus_mesh.specs.MeshIn.{values_in};
+ghost use Rattle.exodus_mesh.specs.Found.{IsIntVar};
+ghost use Rattle.remap_files.specs.Answers.{Refuses, IsOfNamesOrRows};
+ghost use Rattle.remap_files.specs.OverlapIn.{lists_in, overlap_in};
+ghost use Rattle.remap_files.specs.Found.{IsSomeIntVar, file_fault_of};
+
+use crate::variables::var_at;
+use crate::{FileFault, find_overlap, overlap_from};
+use clip::Overlap;
+use exodus_mesh::NameFault;
+use nc_format::{NcFile, gather, int_values};
+use std::alloc::Global;
+use vec_exact::{Ints, NoMemory};
+
+// The numbers of the variable at a place.
+fn values(alloc: Global, file: &NcFile, bytes: &[u8], place: u32) -> Result<Ints, NoMemory>
+    requires header { IsHeader bytes.now (length bytes.now) file.now }
+    requires var { IsSomeIntVar file.now place }
+    ensures { IfOk result (λ ints. ints ≡ values_in file.now bytes.now place) }
+{
+    let Some(var) = var_at(file, place) else {
+        return Ok(Ints {
+            items: Vec::new(alloc),
+        });
+    };
+    let spelled = gather(alloc, var, bytes)?;
+    let items = int_values(alloc, var.kind, &spelled)?;
+    Ok(Ints { items })
+}
+
+fn lists(
+    alloc: Global,
+    file: &NcFile,
+    bytes: &[u8],
+    places: &[u32],
+) -> Result<Vec<Ints>, NoMemory>
+    requires header { IsHeader bytes.now (length bytes.now) file.now }
+    requires vars { All (IsSomeIntVar file.now) places.now }
+    ensures { IfOk result (λ lists. lists.items ≡ lists_in file.now bytes.now places.now) }
+{
+    let mut lists = Vec::with_capacity(alloc, places.len())?;
+    for place in places {
+        lists.push(values(alloc, file, bytes, *place)?)?;
+    }
+    Ok(lists)
+}
+
+// A fault of names is a fault of the file; want of memory stays want of memory.
+fn file_fault(fault: NameFault) -> FileFault
+    ensures { result ≡ file_fault_of fault }
+{
+    match fault {
+        NameFault::NoMemory => FileFault::NoMemory,
+        _ => FileFault::Name(fault),
+    }
+}
+
+/// The overlap in the file with the bytes `bytes` and the header `file`.
+///
+/// A fault is the first one: `Name` for those of `find_overlap`, and behind them `Row` for those of
+/// `overlap_from`. It never names an area.
+pub fn read_overlap(alloc: Global, file: &NcFile, bytes: &[u8]) -> Result<Overlap, FileFault>
+    requires header { IsHeader bytes.now (length bytes.now) file.now }
+    ensures overlap { IfOk result (λ overlap. overlap_in file.now bytes.now ≡ Ok overlap) }
+    // A fault that is answered is the first one, unless memory ran out.
+    ensures fault { IfErr result (λ fault. Refuses fault (overlap_in file.now bytes.now)) }
+    ensures of_names_or_rows { IfErr result IsOfNamesOrRows }
+{
+    let vars = match find_overlap(alloc, file) {
+        Ok(vars) => vars,
+        Err(fault) => return Err(file_fault(fault)),
+    };
+    let lists = lists(alloc, file, bytes, &vars.vars.items)?;
+    overlap_from(alloc, &vars, &lists)
+}

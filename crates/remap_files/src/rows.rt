@@ -1,0 +1,219 @@
+// The pieces that the numbers of a file say, row by row.
+ghost use Rattle.std.specs.Prelude.{◌≡◌, ◌≤◌, ◌<◌, ◌+◌, ◌*◌, [], ◌∷◌, All, length, map, None, Ok, IfOk, IfErr, slice_index_or, unsigned_abs};
+ghost use Rattle.std.specs.List.{list_all, range_with_len};
+ghost use Rattle.exodus_mesh.specs.MeshValues.{rows_of};
+ghost use Rattle.clip.specs.Overlaps.{IsFaceCount};
+ghost use Rattle.remap_files.specs.Rows.{HasFiveLists, IsGoodRing};
+ghost use Rattle.remap_files.specs.Answers.{Refuses, IsOfRows};
+ghost use Rattle.remap_files.specs.OverlapNames.{is_within};
+ghost use Rattle.remap_files.specs.OverlapRows.{columns_of, exceeds, has_good_faces, ring_begin, ring_len, has_good_ring, is_good_row, piece_of, piece_at, row_fault, overlap_of, overlap_lens};
+
+
+use crate::finding::is_within;
+use crate::{FileFault, OverlapVars};
+use arrayvec::ArrayVec;
+use clip::{Corners, Overlap, Piece, Pieces, Ring};
+use smallvec::SmallVec;
+use std::alloc::{AllocError, Global};
+use vec_exact::Ints;
+
+// The numbers of one of the five variables, by its place among them.
+fn column<'a>(values: &'a [Ints], k: usize) -> &'a [i32]
+    requires { k < length values.now }
+    ensures { result.now ≡ slice_index_or values.now k [] }
+{
+    let list = &values[k];
+    &list.items
+}
+
+fn exceeds(before: (i32, i32), pair: (i32, i32)) -> bool
+    ensures { result ≡ exceeds before.0 before.1 pair.0 pair.1 }
+{
+    before.0 < pair.0 || (before.0 == pair.0 && before.1 < pair.1)
+}
+
+// Whether the faces of row r, from 0, are faces of the meshes and come after those of the row before.
+#[tactic(auto, unfolding(crate::specs::OverlapRows::has_good_faces))]
+fn has_good_faces(faces_a: u32, faces_b: u32, source: &[i32], target: &[i32], r: usize) -> bool
+    requires source { r < length source.now }
+    requires target { r < length target.now }
+    ensures { result ≡ has_good_faces faces_a faces_b source.now target.now r }
+{
+    is_within(1, faces_a, source[r])
+        && is_within(1, faces_b, target[r])
+        && (r == 0 || exceeds((source[r - 1], target[r - 1]), (source[r], target[r])))
+}
+
+fn are_plane_numbers(ring: &[i32]) -> bool
+    ensures { result ≡ list_all (is_within 1 32) ring.now }
+{
+    ring.iter().all(|number| is_within(1, 32, *number))
+}
+
+// Whether the ring of row r, which begins at a place, is there whole and has good numbers.
+#[tactic(auto, unfolding(crate::specs::OverlapRows::has_good_ring))]
+fn has_good_ring(ring_size: &[i32], ring_plane: &[i32], r: usize, begin: usize) -> bool
+    requires row { r < length ring_size.now }
+    requires begin { begin ≡ ring_begin ring_size.now r }
+    requires inside { begin ≤ length ring_plane.now }
+    ensures { result ≡ has_good_ring ring_size.now ring_plane.now r }
+{
+    let size = ring_size[r];
+    if !is_within(3, 32, size) {
+        return false;
+    }
+    let (_, behind) = ring_plane.split_at(begin);
+    let len = size.unsigned_abs() as usize;
+    if behind.len() < len {
+        return false;
+    }
+    let (ring, _) = behind.split_at(len);
+    are_plane_numbers(ring)
+}
+
+fn make_ring(numbers: &[i32]) -> Ring
+    requires few { length numbers.now ≤ 32 }
+    requires small { All (λ z. unsigned_abs z ≤ 32) numbers.now }
+    ensures { result.items ≡ map unsigned_abs numbers.now }
+{
+    let mut ring = ArrayVec::new();
+    for number in numbers {
+        ring.push(number.unsigned_abs() as u8);
+    }
+    ring
+}
+
+// So many corners, of three numbers each.
+fn make_corners(alloc: Global, count: usize, numbers: &[i32]) -> Result<Corners, AllocError>
+    requires { 3 * count ≤ length numbers.now }
+    ensures { IfOk result (λ corners. corners ≡ rows_of count 3 numbers.now) }
+{
+    let mut items = SmallVec::with_capacity(alloc, count)?;
+    let mut rest = numbers;
+    for _ in 0..count {
+        let (corner, behind) = rest.split_at(3);
+        items.push([corner[0], corner[1], corner[2]])?;
+        rest = behind;
+    }
+    Ok(Corners { items })
+}
+
+// Whether row r, from 0, whose ring begins at a place, is at no fault.
+fn is_good_row(vars: &OverlapVars, values: &[Ints], r: usize, begin: usize) -> bool
+    requires lists { HasFiveLists vars.now values.now }
+    requires row { r < vars.now.pieces }
+    requires begin { begin ≡ ring_begin (columns_of values.now).ring_size r }
+    requires inside { begin ≤ length (columns_of values.now).ring_plane }
+    ensures { result ≡ is_good_row vars.now.faces_a vars.now.faces_b (columns_of values.now) r }
+{
+    has_good_faces(vars.faces_a, vars.faces_b, column(values, 0), column(values, 1), r)
+        && has_good_ring(column(values, 2), column(values, 3), r, begin)
+}
+
+// The length of the ring of row r.
+fn ring_len(values: &[Ints], r: usize) -> usize
+    requires lists { 2 < length values.now }
+    requires row { r < length (columns_of values.now).ring_size }
+    ensures { result ≡ ring_len (columns_of values.now).ring_size r }
+{
+    column(values, 2)[r].unsigned_abs() as usize
+}
+
+// The piece of row r, whose ring begins at a place.
+#[tactic(auto, unfolding(crate::specs::OverlapRows::piece_at))]
+fn make_piece(
+    alloc: Global,
+    vars: &OverlapVars,
+    values: &[Ints],
+    r: usize,
+    begin: usize,
+) -> Result<Piece, AllocError>
+    requires lists { HasFiveLists vars.now values.now }
+    requires row { r < vars.now.pieces }
+    requires begin { begin ≡ ring_begin (columns_of values.now).ring_size r }
+    requires ring { IsGoodRing (columns_of values.now).ring_size (columns_of values.now).ring_plane r }
+    ensures { IfOk result (λ p. p ≡ piece_at (columns_of values.now) r) }
+{
+    let len = ring_len(values, r);
+    let (_, planes) = column(values, 3).split_at(begin);
+    let (ring, _) = planes.split_at(len);
+    let (_, corners) = column(values, 4).split_at(3 * begin);
+    Ok(Piece {
+        a: column(values, 0)[r].unsigned_abs(),
+        b: column(values, 1)[r].unsigned_abs(),
+        ring: make_ring(ring),
+        corners: make_corners(alloc, len, corners)?,
+    })
+}
+
+// The pieces of all rows, or the first row at fault.
+#[tactic(auto, using(crate::proofs::RowFaults::one_more_good, crate::proofs::RowFaults::next_begin, crate::proofs::GoodRows::row_ring))]
+fn make_pieces(
+    alloc: Global,
+    vars: &OverlapVars,
+    values: &[Ints],
+) -> Result<Vec<Piece>, FileFault>
+    requires lists { HasFiveLists vars.now values.now }
+    requires count { vars.now.pieces ≤ 8388608 }
+    ensures good { IfOk result (λ _. row_fault vars.now (columns_of values.now) ≡ None) }
+    ensures pieces { IfOk result (λ pieces. pieces.items ≡ map (piece_at (columns_of values.now)) (range_with_len 0 vars.now.pieces)) }
+    ensures fault { IfErr result (λ fault. Refuses fault (overlap_of vars.now values.now)) }
+    ensures of_rows { IfErr result IsOfRows }
+{
+    let mut pieces = Vec::with_capacity(alloc, vars.pieces as usize)?;
+    let mut begin = 0;
+    for number in 0..vars.pieces {
+        let r = number as usize;
+        if !is_good_row(vars, values, r, begin) {
+            return Err(FileFault::Row(number + 1));
+        }
+        pieces.push(make_piece(alloc, vars, values, r, begin)?)?;
+        begin += ring_len(values, r);
+    }
+    if begin < column(values, 3).len() {
+        return Err(FileFault::Row(vars.pieces));
+    }
+    Ok(pieces)
+}
+
+/// The overlap with the counts of `vars` and the numbers of its five variables, in the order
+/// `source`, `target`, `ring_size`, `ring_plane` and `corner`.
+///
+/// There are 1 to 1,048,576 faces of each mesh and at most 8,388,608 pieces. With pieces, `values` has
+/// a list for each variable: three with a number for each piece, one with `corners` numbers, and one
+/// with three times as many; without a piece it has none.
+///
+/// `Row(r)` names the first row, from 1, whose source or target is no face of its mesh, whose pair of
+/// faces does not exceed that of the row before, whose ring does not have 3 to 32 numbers or goes
+/// beyond the end of `ring_plane`, or has a number outside 1 to 32. Where there is none it names the
+/// last row, if `ring_plane` goes on behind its ring. There is no other error but want of memory.
+pub fn overlap_from(
+    alloc: Global,
+    vars: &OverlapVars,
+    values: &[Ints],
+) -> Result<Overlap, FileFault>
+    requires source_faces { IsFaceCount vars.now.faces_a }
+    requires target_faces { IsFaceCount vars.now.faces_b }
+    requires pieces { vars.now.pieces ≤ 8388608 }
+    requires lists { map length values.now ≡ overlap_lens vars.now }
+    ensures overlap { IfOk result (λ overlap. overlap_of vars.now values.now ≡ Ok overlap) }
+    // A fault that is answered is the first one, unless memory ran out.
+    ensures fault { IfErr result (λ fault. Refuses fault (overlap_of vars.now values.now)) }
+    ensures of_rows { IfErr result IsOfRows }
+{
+    if vars.pieces == 0 {
+        return Ok(Overlap {
+            faces_a: vars.faces_a,
+            faces_b: vars.faces_b,
+            pieces: Pieces {
+                items: Vec::new(alloc),
+            },
+        });
+    }
+    let pieces = make_pieces(alloc, vars, values)?;
+    Ok(Overlap {
+        faces_a: vars.faces_a,
+        faces_b: vars.faces_b,
+        pieces: Pieces { items: pieces },
+    })
+}
