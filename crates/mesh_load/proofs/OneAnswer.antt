@@ -22,7 +22,7 @@ use Rattle.remap_load.specs.Frame.{OnFile}
 use Rattle.remap_load.specs.Heads.{header_cost}
 use Rattle.mesh_load.specs.declared.MeshRefusal.{MeshRefusal}
 use Rattle.mesh_load.specs.declared.MeshRefusal.TheVariants.{NoFile, ReadFault, TooLong, Format, Names, Mesh, NoMemory}
-use Rattle.mesh_load.specs.MeshFile.{IsNetcdf, IsMeshOf, IsRefusedBytes, IsRefusedFile, IsMeshFile, IsRefusedMesh, IsRefusalOf, mesh_bytes, named_bytes, read_cost, file_cost, mesh_cost}
+use Rattle.mesh_load.specs.MeshFile.{IsNetcdf, IsMeshOf, IsRefusedBytes, IsRefusedFile, IsMeshFile, IsRefusedMesh, IsRefusalOf, mesh_bytes, named_bytes, read_cost, file_cost, mesh_cost, read_head_cost, file_head_cost, head_cost}
 
 -- what bytes come to
 abbrev Gives : List ℕ → Result RawMesh MeshRefusal → Type 0
@@ -216,3 +216,20 @@ pub cost_of_load : (folder : Option Folder) (name : List ℕ) (file : NcFile) (v
     → IfSome folder (λ m. new ≤ old + mesh_cost m name)
 cost_of_load None name file vars old mid new found header le more = tt
 cost_of_load (Some m) name file vars old mid new found header le more = cost_some m name (file_at m name) refl file vars old mid new found header le more
+
+-- Before any value is read.
+
+head_cost_is : (m : Folder) (name bytes : List ℕ) (file : NcFile) (h : IsHeader bytes (length bytes) file) → file_at m name ≡ Some bytes → head_cost m name ≡ header_cost (length h.header)
+unfolding head_cost
+head_cost_is m name bytes file h there = ap file_head_cost there ∙ ap read_head_cost (header_whole bytes h.header h.rest h.fields h.parts h.spelled)
+
+head_some : (m : Folder) (name : List ℕ) (o : Option (List ℕ)) → file_at m name ≡ o → (file : NcFile) (old mid : ℕ)
+    → IsSomeAnd o (λ bytes. IsHeader bytes (length bytes) file) → IsSomeAnd o (λ bytes. (h : IsHeader bytes (length bytes) file) → mid ≤ old + header_cost (length h.header)) → mid ≤ old + head_cost m name
+head_some m name None there file old mid header le = absurd header
+head_some m name (Some bytes) there file old mid header le = omega (arith, head_cost_is m name bytes file header there, le header)
+
+pub cost_of_head : (folder : Option Folder) (name : List ℕ) (file : NcFile) (old mid new : ℕ)
+    → OnFile folder name (λ bytes. IsHeader bytes (length bytes) file) → OnFile folder name (λ bytes. (h : IsHeader bytes (length bytes) file) → mid ≤ old + header_cost (length h.header)) → new ≡ mid
+    → IfSome folder (λ m. new ≤ old + head_cost m name)
+cost_of_head None name file old mid new header le same = tt
+cost_of_head (Some m) name file old mid new header le same = omega (arith, head_some m name (file_at m name) refl file old mid header le, same)

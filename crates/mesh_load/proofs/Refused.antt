@@ -18,13 +18,15 @@ use Rattle.exodus_mesh.specs.MeshIn as mesh
 use Rattle.exodus_mesh.specs.MeshIn.{mesh_in, mesh_at, mesh_count_fault, if_named, if_counted}
 use Rattle.exodus_mesh.proofs.ReadValues.{mesh_in_is}
 use Rattle.remap_load.specs.declared.Head.{Head}
+use Rattle.remap_load.specs.declared.fault.LoadFault.{LoadFault}
+use Rattle.remap_load.specs.declared.fault.LoadFault.TheVariants as load
 use Rattle.remap_load.specs.Frame.{OnFile}
 use Rattle.remap_load.specs.Heads.{IsHead, IsHeadOfBytes}
 use Rattle.remap_load.proofs.Fronts.{on_file, on_this_file}
 use Rattle.mesh_load.specs.declared.MeshRefusal.{MeshRefusal}
 use Rattle.mesh_load.specs.declared.MeshRefusal.TheVariants.{NoFile, ReadFault, TooLong, Format, Names, Mesh, NoMemory}
-use Rattle.mesh_load.specs.MeshFile.{IsNetcdf, IsMeshOf, IsRefusedBytes, HasNameFault, IsRefusedFile, IsRefusalOf}
-use Rattle.mesh_load.specs.Refusals.{refusal_of_names, refusal_of_mesh, IsRefusal, IsOfHeader, IsOfMesh}
+use Rattle.mesh_load.specs.MeshFile.{IsNetcdf, IsMeshOf, IsRefusedBytes, HasNameFault, IsRefusedFile, IsRefusalOf, IsOfHead}
+use Rattle.mesh_load.specs.Refusals.{refusal_of_load, refusal_of_names, refusal_of_mesh, IsRefusal, IsOfHeader, IsOfMesh}
 
 -- a refusal that was answered
 pub answered : {A : Type 0} (P : MeshRefusal → Type 0) (r : Result A MeshRefusal) (refusal : MeshRefusal) → r ≡ Err refusal → P refusal → IfErr r P
@@ -146,3 +148,33 @@ told_mesh (Some m) name P h = h
 pub told_meshes : (folder : Option Folder) (name : List ℕ) (r : Result RawMesh MeshRefusal) → IfOk r (λ mesh. OnFile folder name (λ bytes. IsMeshOf bytes mesh)) → IfOk r (λ mesh. IfSome folder (λ m. IsSomeAnd (file_at m name) (λ bytes. IsMeshOf bytes mesh)))
 told_meshes folder name (Ok mesh) h = told_mesh folder name (λ bytes. IsMeshOf bytes mesh) h
 told_meshes folder name (Err e) h = tt
+
+-- Only names and counts are of the header.
+
+pub load_not_head : (e : LoadFault) → IsOfHead (refusal_of_load e) → ⊥
+load_not_head load.Absent h = h
+load_not_head load.Failed h = h
+load_not_head (load.TooLong n) h = h
+load_not_head (load.Format f) h = h
+load_not_head load.NoMemory h = h
+
+never_count : (raw : RawMesh) (e : MeshFault) → IsFirstMeshFault raw e → IsOfHead (Mesh e) → ⊥
+never_count raw (mesh_faults.TooManyNodes n) (inl f) h = f.here
+never_count raw (mesh_faults.TooManyNodes n) (inr f) h = f.1.here
+never_count raw (mesh_faults.TooManyFaces n) (inl f) h = f.here
+never_count raw (mesh_faults.TooManyFaces n) (inr f) h = f.1.here
+never_count raw (mesh_faults.CoordRange n) f h = h
+never_count raw (mesh_faults.ZeroNode n) f h = h
+never_count raw (mesh_faults.NodeNumber n) f h = h
+never_count raw (mesh_faults.FaceSize n) f h = h
+never_count raw (mesh_faults.NotConvex n) f h = h
+never_count raw mesh_faults.NoMemory f h = h
+
+pub mesh_not_head : (raw : RawMesh) (r : MeshRefusal) → IsOfMesh raw r → IsOfHead r → ⊥
+mesh_not_head raw NoFile is h = h
+mesh_not_head raw ReadFault is h = h
+mesh_not_head raw (TooLong n) is h = h
+mesh_not_head raw (Format e) is h = h
+mesh_not_head raw (Names e) is h = is
+mesh_not_head raw (Mesh e) is h = never_count raw e is.1 h
+mesh_not_head raw NoMemory is h = h

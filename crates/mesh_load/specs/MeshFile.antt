@@ -10,6 +10,7 @@ use Rattle.nc_format.specs.declared.fault.NcFault.{NcFault}
 use Rattle.nc_format.specs.Placing.{with_places}
 use Rattle.nc_format.specs.Header.{IsHeader, first_fault, header_read}
 use Rattle.mesh_check.specs.declared.faults.MeshFault.{MeshFault}
+use Rattle.mesh_check.specs.declared.faults.MeshFault.TheVariants as counts
 use Rattle.mesh_check.specs.Mesh.{IsAcceptedMesh}
 use Rattle.mesh_check.specs.FirstFault.{IsFirstMeshFault}
 use Rattle.exodus_mesh.specs.declared.ids.NameFault.{NameFault}
@@ -84,6 +85,18 @@ IsRefusalOf folder name ReadFault = ⊤
 IsRefusalOf folder name NoMemory = ⊤
 IsRefusalOf folder name refusal = IsRefusedMesh folder name refusal
 
+-- the header alone has this fault: one of names or of counts
+abbrev pub IsOfHead : MeshRefusal → Type 0
+IsOfHead NoFile = ⊥
+IsOfHead ReadFault = ⊥
+IsOfHead (TooLong n) = ⊥
+IsOfHead (Format fault) = ⊥
+IsOfHead (Names fault) = ⊤
+IsOfHead (Mesh (counts.TooManyNodes n)) = ⊤
+IsOfHead (Mesh (counts.TooManyFaces n)) = ⊤
+IsOfHead (Mesh fault) = ⊥
+IsOfHead NoMemory = ⊥
+
 -- How many bytes are asked for.
 
 -- the bytes of all pieces of a variable
@@ -120,6 +133,18 @@ read_cost (Err fault) = 0
 abbrev pub file_cost : Option (List ℕ) → ℕ
 file_cost None = 0
 file_cost (Some bytes) = read_cost (header_read bytes)
+
+abbrev pub read_head_cost : Result (NcFile × ℕ) NcFault → ℕ
+read_head_cost (Ok x) = header_cost x.1
+read_head_cost (Err fault) = 0
+
+abbrev pub file_head_cost : Option (List ℕ) → ℕ
+file_head_cost None = 0
+file_head_cost (Some bytes) = read_head_cost (header_read bytes)
+
+-- For the header of a name: 65,536 bytes or twice the header.
+unfoldable pub head_cost : Folder → List ℕ → ℕ
+head_cost folder name = file_head_cost (file_at folder name)
 
 -- For the mesh of a name: 65,536 bytes or twice the header, and the bytes of the variables that the mesh needs.
 unfoldable pub mesh_cost : Folder → List ℕ → ℕ

@@ -11,7 +11,7 @@ ghost use Rattle.exodus_mesh.specs.MeshNames.{mesh_vars_in};
 ghost use Rattle.remap_load.specs.Frame.{OnlyReads, OnFile};
 ghost use Rattle.remap_load.specs.Heads.{IsHead, IsHeadOfBytes};
 ghost use Rattle.mesh_load.specs.declared.MeshRefusal.{MeshRefusal as Refusal};
-ghost use Rattle.mesh_load.specs.MeshFile.{IsMeshOf, IsMeshFile, IsRefusedMesh, IsRefusalOf, mesh_bytes, mesh_cost};
+ghost use Rattle.mesh_load.specs.MeshFile.{IsMeshOf, IsMeshFile, IsRefusedMesh, IsRefusalOf, IsOfHead, mesh_bytes, head_cost, mesh_cost};
 ghost use Rattle.mesh_load.specs.Refusals.{IsOuter, IsRefusal, IsOfHeader, IsOfMesh};
 
 use crate::MeshRefusal;
@@ -65,6 +65,7 @@ fn mesh_of<F: Files>(
     ensures no_file { IsErrOf result MeshRefusal.NoFile → Rose (F.misses files.old) (F.misses files.new) }
     ensures read_fault { IsErrOf result MeshRefusal.ReadFault → Rose (F.faults files.old) (F.faults files.new) }
     ensures reads { OnlyReads F.folder F.faults F.write_faults F.misses F.taken files.old files.new }
+    ensures values_last { IfErr result (λ refusal. IsOfHead refusal → F.taken files.new ≡ F.taken files.old) }
     ensures taken { OnOk result ((vars : FoundVars) × (mesh_vars_in head.now.file ≡ Ok vars) × (F.taken files.new ≤ F.taken files.old + mesh_bytes head.now.file vars)) }
 {
     let vars = counted_vars(alloc, &head.file)?;
@@ -81,6 +82,7 @@ fn load<F: Files>(alloc: Global, files: &mut F, name: &str) -> Result<Mesh, Mesh
     ensures no_file { IsErrOf result MeshRefusal.NoFile → Rose (F.misses files.old) (F.misses files.new) }
     ensures read_fault { IsErrOf result MeshRefusal.ReadFault → Rose (F.faults files.old) (F.faults files.new) }
     ensures reads { OnlyReads F.folder F.faults F.write_faults F.misses F.taken files.old files.new }
+    ensures values_last { IfErr result (λ refusal. IsOfHead refusal → IfSome (F.folder files.old) (λ m. F.taken files.new ≤ F.taken files.old + head_cost m name.now)) }
     ensures taken { OnOk result (IfSome (F.folder files.old) (λ m. F.taken files.new ≤ F.taken files.old + mesh_cost m name.now)) }
 {
     let head = load_header(alloc, files, name)?;
@@ -115,7 +117,8 @@ pub fn load_mesh<F: Files>(alloc: Global, files: &mut F, name: &str) -> Result<M
     ensures later_misses { IsLater (F.misses files.old) (F.misses files.new) }
     ensures later_taken { IsLater (F.taken files.old) (F.taken files.new) }
 
-    // Beside the header only the variables of the mesh are read.
+    // No value is read before names and counts are found good; then only the variables of the mesh are.
+    ensures values_last { IfErr result (λ refusal. IsOfHead refusal → IfSome (F.folder files.old) (λ m. F.taken files.new ≤ F.taken files.old + head_cost m name.now)) }
     ensures taken { OnOk result (IfSome (F.folder files.old) (λ m. F.taken files.new ≤ F.taken files.old + mesh_cost m name.now)) }
 {
     load(alloc, files, name)
