@@ -1,6 +1,7 @@
 // Blocks that several workers draw, gathered in the order of their numbers.
 ghost use Rattle.std.specs.Prelude.{◌≡◌, ◌≢◌, ℕ, ◌+◌, ◌*◌, ◌<◌, ◌≤◌, ◌^◌, IfOk, OnOk, length, min};
 ghost use Rattle.std.specs.Int.{div_ceil};
+ghost use Rattle.vec_exact.specs.declared.RawMesh.{RawMesh};
 ghost use Rattle.cell_index.specs.IndexOf.{IsIndexOf};
 ghost use Rattle.block_workers.specs.InPlace.{AllInPlace};
 ghost use Rattle.overlap_run.specs.Pairs.{DoMeet};
@@ -30,6 +31,18 @@ struct SourceBlocks<'a, C, G> {
     ghost indexed: { IsIndexOf index.now b.now },
 }
 
+// The block with its pieces in a list of just their size: a worker's blocks wait until all are done.
+fn fitted<C: PieceList>(alloc: Global, block: Block<C>) -> Result<Block<C>, NoMemory>
+    ensures { IfOk result (λ new. (a b : RawMesh) → (s : ℕ) → IsNumberedBlock C.holds a b s block → IsNumberedBlock C.holds a b s new) }
+{
+    let mut pieces = C::none(alloc);
+    pieces.append(block.pieces)?;
+    Ok(Block {
+        count: block.count,
+        pieces,
+    })
+}
+
 // One block, with a counter of its own.
 fn counted_block<C: PieceList, G: Gate, L: Ledger>(
     alloc: Global,
@@ -48,7 +61,8 @@ fn counted_block<C: PieceList, G: Gate, L: Ledger>(
     ensures { IfOk result (IsNumberedBlock C.holds a.now b.now s) }
 {
     let mut steps = Steps::<L>::new(blank);
-    numbered_block(alloc, a, b, index, gate, s, &mut steps)
+    let block = numbered_block(alloc, a, b, index, gate, s, &mut steps)?;
+    fitted(alloc, block)
 }
 
 impl<'a, C: PieceList + Send + Sync, G: Gate + Sync> BlockJob for SourceBlocks<'a, C, G> {
