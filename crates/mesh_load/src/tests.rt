@@ -42,7 +42,7 @@ fn a_mesh_and_its_refusals(rt: HostRuntime) -> Result<(), Fail> {
     );
     assert_eq!(rt;
         load_mesh(rt.alloc(), &mut files, "cut.g").err(),
-        Some(MeshRefusal::Format(NcFault::DataOutside(1)))
+        Some(MeshRefusal::Format(NcFault::DataOutside(2)))
     );
     Ok(())
 }
