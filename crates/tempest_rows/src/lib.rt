@@ -21,3 +21,5 @@ mod rings;
 mod runs;
 #[cfg(test)]
 mod words;
+#[cfg(test)]
+mod workers;

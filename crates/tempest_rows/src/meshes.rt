@@ -37,10 +37,10 @@ fn push_number(file: &mut Vec<u8>, number: i32) -> Result<(), AllocError> {
     file.extend_from_slice(&number.to_be_bytes())
 }
 
-// The header of 248 bytes for so many nodes, faces, and nodes a face: at most 1000 of each.
+// The header of 248 bytes for so many nodes, faces, and nodes a face.
 fn push_header(file: &mut Vec<u8>, nodes: i32, faces: i32, width: i32) -> Result<(), AllocError>
     requires nodes { (pos 0 ≤ℤ nodes) × (nodes ≤ℤ pos 1000) }
-    requires faces { (pos 0 ≤ℤ faces) × (faces ≤ℤ pos 1000) }
+    requires faces { (pos 0 ≤ℤ faces) × (faces ≤ℤ pos 10000) }
     requires width { (pos 0 ≤ℤ width) × (width ≤ℤ pos 1000) }
 {
     file.extend_from_slice(&CS1[..48])?;
@@ -54,29 +54,38 @@ fn push_header(file: &mut Vec<u8>, nodes: i32, faces: i32, width: i32) -> Result
     file.extend_from_slice(&CS1[136..188])?;
     push_number(file, 12 * nodes)?;
     file.extend_from_slice(&CS1[192..236])?;
-    push_number(file, 4 * faces * width)?;
+    push_number(file, (4 * faces).wrapping_mul(width))?;
     file.extend_from_slice(&CS1[240..244])?;
     push_number(file, 248 + 12 * nodes)
 }
 
-/// The mesh file of these nodes and of the one face over all node numbers in `face`.
-pub fn mesh_of_one_face(
+fn push_face(file: &mut Vec<u8>, face: &[i32]) -> Result<(), AllocError> {
+    for number in face {
+        push_number(file, *number)?;
+    }
+    Ok(())
+}
+
+/// The mesh file of these nodes and of so many faces with the same node numbers.
+pub fn mesh_of_equal_faces(
     alloc: Global,
     nodes: &[[i32; 3]],
     face: &[i32],
+    times: i32,
 ) -> Result<Vec<u8>, AllocError>
     requires nodes { length nodes.now ≤ 1000 }
     requires face { length face.now ≤ 1000 }
+    requires times { (pos 0 ≤ℤ times) × (times ≤ℤ pos 10000) }
 {
     let mut file = Vec::new(alloc);
-    push_header(&mut file, nodes.len() as i32, 1, face.len() as i32)?;
+    push_header(&mut file, nodes.len() as i32, times, face.len() as i32)?;
     for axis in 0..3 {
         for node in nodes {
             push_number(&mut file, node[axis])?;
         }
     }
-    for number in face {
-        push_number(&mut file, *number)?;
+    for _ in 0..times {
+        push_face(&mut file, face)?;
     }
     Ok(file)
 }
@@ -85,9 +94,9 @@ pub fn mesh_of_one_face(
 /// corners.
 pub(crate) fn with_small_meshes(alloc: Global) -> Result<Run, Fail> {
     let mut row = Run::new(alloc);
-    let octant = mesh_of_one_face(alloc, &OCTANT, &[1, 2, 3])?;
-    let opposite = mesh_of_one_face(alloc, &OPPOSITE, &[1, 3, 2])?;
-    let sixteen = mesh_of_one_face(alloc, &SIXTEEN, &TO_SIXTEEN)?;
+    let octant = mesh_of_equal_faces(alloc, &OCTANT, &[1, 2, 3], 1)?;
+    let opposite = mesh_of_equal_faces(alloc, &OPPOSITE, &[1, 3, 2], 1)?;
+    let sixteen = mesh_of_equal_faces(alloc, &SIXTEEN, &TO_SIXTEEN, 1)?;
     row.place("octant.g", &octant)?;
     row.place("opposite.g", &opposite)?;
     row.place("sixteen.g", &sixteen)?;
