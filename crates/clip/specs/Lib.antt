@@ -1,3 +1,4 @@
 pub mod Planes
 pub mod Usable
 pub mod Overlaps
+pub mod Columns

@@ -1,5 +1,5 @@
 -- Overlaps as contracts see them, and what each of them keeps.
-use Rattle.std.specs.Prelude.{◌≡◌, ℕ, ◌<◌, ◌≤◌, ◌⊎◌, List, length, All, AllPairs}
+use Rattle.std.specs.Prelude.{◌≡◌, ℕ, ◌<◌, ◌≤◌, ◌^◌, ◌⊎◌, List, length, All, AllPairs}
 use Rattle.clip.specs.declared.pieces.Piece.{Piece}
 
 -- the face counts of two meshes, and pieces of them
@@ -15,6 +15,13 @@ IsBefore p q = (p.a < q.a) ⊎ ((p.a ≡ q.a) × (p.b < q.b))
 -- a number that a ring may hold
 abbrev pub IsRingNumber : ℕ → Type 0
 IsRingNumber n = (1 ≤ n) × (n ≤ 32)
+
+-- the numbers of a piece as files have them: its face numbers fit 32 bits with sign, and the length and the numbers of its ring 8 bits
+pub record HasSmallNumbers (p : Piece) : Type 0 where
+  pub source : p.a < 2 ^ 31
+  pub target : p.b < 2 ^ 31
+  pub greatest_size : length p.ring.items ≤ 32
+  pub numbers : All IsRingNumber p.ring.items
 
 -- a piece of two meshes with these face counts
 pub record IsSoundPiece (faces_a faces_b : ℕ) (p : Piece) : Type 0 where

@@ -1,6 +1,7 @@
 //! Exact clipping: the ring of edge planes of two faces, made by adding one plane after another.
 #![tactic(auto)]
 
+mod columns;
 mod lists;
 mod overlap;
 mod pairs;
@@ -11,6 +12,7 @@ mod sides;
 #[cfg(test)]
 mod tests;
 
+pub use columns::{Columns, PieceList};
 pub use lists::{PlaneList, Ring, corner};
 pub use overlap::Overlap;
 pub use pairs::{clip, is_ring, planes};

@@ -4,3 +4,10 @@ mod Table
 mod Search
 mod Distinct
 pub mod Counts
+mod Members
+mod Held
+mod Places
+mod Steps
+mod Tables
+mod MadeMesh
+pub mod One

@@ -16,7 +16,7 @@ pub ties : (xs ys : List ℤ) → pointwise int_eq xs ys ≡ eq_by_cmp (slice_cm
 ties = lists_ties int_cmp (λ x y. refl)
 
 -- where the order tells two triples apart, or not, so does the test
-test_is : (x t : List ℤ) (o : Ordering) → slice_cmp int_cmp x t ≡ o → pointwise int_eq x t ≡ is_eq o
+pub test_is : (x t : List ℤ) (o : Ordering) → slice_cmp int_cmp x t ≡ o → pointwise int_eq x t ≡ is_eq o
 test_is x t o h = ties x t ∙ ap is_eq h
 
 -- a triple that stands at place k

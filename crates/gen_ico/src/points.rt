@@ -8,13 +8,13 @@ use crate::icosahedron::{base_triangle, corner_component};
 use std::alloc::{AllocError, Global};
 use vec_exact::round_div;
 
-// A quotient that is at most 131,072 in size.
-fn quotient(x: i64, d: i64) -> i32
+// A quotient that is at most 262,144 in size.
+pub fn quotient(x: i64, d: i64) -> i32
     requires positive { pos 0 <ℤ d }
     requires large { unsigned_abs d ≤ 2 ^ 43 }
-    requires size { unsigned_abs x ≤ 131072 * unsigned_abs d }
+    requires size { unsigned_abs x ≤ 262144 * unsigned_abs d }
     ensures value { result ≡ rounded x (unsigned_abs d) }
-    ensures small { unsigned_abs result ≤ 131072 }
+    ensures small { unsigned_abs result ≤ 262144 }
 {
     round_div(i128::from(x), i128::from(d)) as i32
 }

@@ -53,7 +53,7 @@ cut_header doc h c lt low high =
 
 told : (f : NcFile) (o : Option ℕ) → IsWhole (fault_in (inside_or f o))
 told f None = inl refl
-told f (Some i) = inr (i, refl)
+told f (Some i) = inr (i + 1, refl)
 
 whole_fields : (len : ℕ) (f : NcFile) → IsWhole (fault_in (finished len f))
 unfolding finished

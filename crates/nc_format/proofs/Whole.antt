@@ -197,11 +197,11 @@ all_inside len vs h = position_from-zero (is_outside len) vs ∙ from_none (is_o
 
 inside_ok : (g f : NcFile) (o : Option ℕ) → inside_or g o ≡ Ok f → (f ≡ g) × (o ≡ None)
 inside_ok g f None e = (sym (ok_is g f e), refl)
-inside_ok g f (Some i) e = absurd (no_ok NcFile (DataOutside i) f e)
+inside_ok g f (Some i) e = absurd (no_ok NcFile (DataOutside (i + 1)) f e)
 
-inside_err : (g : NcFile) (o : Option ℕ) (e : NcFault) → inside_or g o ≡ Err e → (i : ℕ) × (e ≡ DataOutside i) × (o ≡ Some i)
+inside_err : (g : NcFile) (o : Option ℕ) (e : NcFault) → inside_or g o ≡ Err e → (i : ℕ) × (e ≡ DataOutside (i + 1)) × (o ≡ Some i)
 inside_err g None e h = absurd (no_err g e h)
-inside_err g (Some i) e h = (i, sym (err_is NcFile (DataOutside i) e h), refl)
+inside_err g (Some i) e h = (i, sym (err_is NcFile (DataOutside (i + 1)) e h), refl)
 
 -- The whole.
 
@@ -243,7 +243,7 @@ finished_inside : (len : ℕ) (g : NcFile) → position (is_outside len) (placed
 unfolding finished
 finished_inside len g e = ap (inside_or (with_places g)) e
 
-finished_outside : (len : ℕ) (g : NcFile) (i : ℕ) → position (is_outside len) (placed_vars g) ≡ Some i → finished len g ≡ Err (DataOutside i)
+finished_outside : (len : ℕ) (g : NcFile) (i : ℕ) → position (is_outside len) (placed_vars g) ≡ Some i → finished len g ≡ Err (DataOutside (i + 1))
 unfolding finished
 finished_outside len g i e = ap (inside_or (with_places g)) e
 

@@ -1,5 +1,5 @@
 -- Which bytes begin with a header, and what is the first fault of those that do not.
-use Rattle.std.specs.Prelude.{◌≡◌, ◌≢◌, ◌⊎◌, ℕ, List, ◌∷◌, ◌++◌, length, Option, Some, None, Result, Ok, Err, All, Bool, true, false, nat_lt, ◌==◌, ◌||◌, ◌&&◌, if◌then◌else◌, slice_index}
+use Rattle.std.specs.Prelude.{◌≡◌, ◌≢◌, ◌⊎◌, ℕ, ◌+◌, List, ◌∷◌, ◌++◌, length, Option, Some, None, Result, Ok, Err, All, Bool, true, false, nat_lt, ◌==◌, ◌||◌, ◌&&◌, if◌then◌else◌, slice_index}
 use Rattle.std.specs.List.{position}
 use Rattle.nc_format.specs.declared.NcFile.{NcFile}
 use Rattle.nc_format.specs.declared.fault.NcFault.{NcFault}
@@ -57,22 +57,22 @@ pub record HasBadBody (b : List ℕ) (e : NcFault) : Type 0 where
   pub known : is_version version ≡ true
   pub fault : (body version).Fails 4 rest e
 
--- no field is at fault, and this is the number of the first variable with a value outside the file
-pub record HasDataOutside (b : List ℕ) (len number : ℕ) : Type 0 where
+-- no field is at fault, and this is the place, from 0, of the first variable with a value outside the file
+pub record HasDataOutside (b : List ℕ) (len place : ℕ) : Type 0 where
   pub header : List ℕ
   pub rest : List ℕ
   pub fields : NcFile
   pub parts : b ≡ header ++ rest
   pub spelled : IsSpelled header fields
-  pub first : position (is_outside len) (placed_vars fields) ≡ Some number
+  pub first : position (is_outside len) (placed_vars fields) ≡ Some place
 
--- The first fault of bytes in a file of a length.
+-- The first fault of bytes in a file of a length. A fault names a variable by its number, which counts from 1.
 abbrev pub IsFirstFault : List ℕ → ℕ → NcFault → Type 0
 IsFirstFault b len e =
     ((e ≡ NotNetcdf) × HasNoMagic b)
     ⊎ ((e ≡ BadField 3) × HasOtherVersion b)
     ⊎ HasBadBody b e
-    ⊎ ((number : ℕ) × (e ≡ DataOutside number) × HasDataOutside b len number)
+    ⊎ ((place : ℕ) × (e ≡ DataOutside (place + 1)) × HasDataOutside b len place)
 
 -- The same as functions, from left to right.
 
@@ -87,7 +87,7 @@ header_read b = if nat_lt (length b) 4 then Err NotNetcdf else magic_read (slice
 -- a header, unless some variable is outside the file
 abbrev pub inside_or : NcFile → Option ℕ → Result NcFile NcFault
 inside_or f None = Ok f
-inside_or f (Some number) = Err (DataOutside number)
+inside_or f (Some place) = Err (DataOutside (place + 1))
 
 -- the fields of a header with the places of all values, which the file has to hold
 unfoldable pub finished : ℕ → NcFile → Result NcFile NcFault

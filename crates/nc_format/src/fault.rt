@@ -7,7 +7,7 @@ use std::alloc::{AllocError, AllocFailed};
 /// - `Truncated`: the bytes given end inside the field that begins at this offset.
 /// - `BadField`: the field at this offset is outside the grammar.
 /// - `Streaming`: the number of records holds the byte `ff` throughout.
-/// - `DataOutside`: the number, from 0, of the first variable whose values reach past the file.
+/// - `DataOutside`: the number, from 1, of the first variable whose values reach past the file.
 #[derive(Clone, Copy, Debug, PartialEq, Eq)]
 pub enum NcFault {
     NotNetcdf,

@@ -41,7 +41,7 @@ fn finished(file: NcFile, len: u64) -> Result<NcFile, NcFault>
 {
     let mut file = file;
     match place_all(&file.dims.items, file.records, len, &mut file.vars.items) {
-        Some(number) => Err(NcFault::DataOutside(number)),
+        Some(place) => Err(NcFault::DataOutside(place + 1)),
         None => Ok(file),
     }
 }

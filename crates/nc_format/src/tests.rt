@@ -108,7 +108,7 @@ fn damaged(rt: HostRuntime) -> Result<(), Fail> {
         (&[(187, 7)], Some(NcFault::BadField(184))),
         (&[(31, 0)], None),
         (&[(51, 0)], Some(NcFault::BadField(172))),
-        (&[(192, 128)], Some(NcFault::DataOutside(0))),
+        (&[(192, 128)], Some(NcFault::DataOutside(1))),
         (&[(198, 1), (199, 88)], None),
     ];
     for (edits, want) in rows {
@@ -128,8 +128,8 @@ fn every_cut(rt: HostRuntime) -> Result<(), Fail> {
         let is_told = match fault {
             Some(NcFault::NotNetcdf) => cut < 4,
             Some(NcFault::Truncated(at)) => 4 <= cut && cut < 248 && at <= cut as u64,
-            Some(NcFault::DataOutside(0)) => 248 <= cut && cut < 344,
-            Some(NcFault::DataOutside(1)) => 344 <= cut,
+            Some(NcFault::DataOutside(1)) => 248 <= cut && cut < 344,
+            Some(NcFault::DataOutside(2)) => 344 <= cut,
             _ => false,
         };
         assert!(rt; is_told, "cut to {cut} bytes");

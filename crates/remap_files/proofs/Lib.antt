@@ -7,3 +7,4 @@ mod ReadOverlaps
 mod RowsAgain
 mod OverlapAgain
 mod Taken
+mod ColumnCounts

@@ -25,7 +25,8 @@ use Rattle.exodus_mesh.specs.declared.ids.NameId.TheVariants.{FacesA, FacesB, Pi
 use Rattle.exodus_mesh.specs.Names.{name_of}
 use Rattle.exodus_mesh.specs.MeshNames.{int_lens, axis_len}
 use Rattle.remap_files.specs.declared.vars.OverlapVars.{OverlapVars}
-use Rattle.remap_files.specs.OverlapDocument.{attribute_of, sources_of, targets_of, ring_sizes_of, ring_of, ring_planes_of, triple_of, piece_corners, corners_of, corner_count_of, overlap_document, IsCorner, HasCorners}
+use Rattle.clip.specs.Columns.{source_column, target_column, ring_size_column, ring_numbers, ring_plane_column, triple_of, corner_numbers, corner_column}
+use Rattle.remap_files.specs.OverlapDocument.{attribute_of, corner_count_of, overlap_document, IsCorner, HasCorners}
 use Rattle.remap_files.specs.OverlapNames.{is_within, att_in, count_in, column_in, planes_in, corner_in, five_in, no_vars, overlap_vars_in}
 use Rattle.remap_files.specs.OverlapRows.{overlap_of}
 use Rattle.remap_files.specs.OverlapIn.{lists_in, overlap_in}
@@ -114,30 +115,30 @@ byte_fits n small = fits_signed_from_abs w8 (pos n) (omega (arith, small))
 ring_fits : (xs : List ℕ) → All IsRingNumber xs → All (FitsSigned w8) (map (λ n. pos n) xs)
 ring_fits xs all = All-map (FitsSigned w8) (λ n. pos n) xs (λ i d below. byte_fits (slice_index_or xs i d) (all i d below).1)
 
-planes_fit : (pieces : List Piece) → AllByRecursion (λ (p : Piece). All IsRingNumber p.ring.items) pieces → All (FitsSigned w8) (ring_planes_of pieces)
+planes_fit : (pieces : List Piece) → AllByRecursion (λ (p : Piece). All IsRingNumber p.ring.items) pieces → All (FitsSigned w8) (ring_plane_column pieces)
 planes_fit [] h = All-nil (FitsSigned w8)
-planes_fit (p ∷ ps) h = All-append (FitsSigned w8) (ring_of p) (ring_planes_of ps) (ring_fits p.ring.items h.0) (planes_fit ps h.1)
+planes_fit (p ∷ ps) h = All-append (FitsSigned w8) (ring_numbers p) (ring_plane_column ps) (ring_fits p.ring.items h.0) (planes_fit ps h.1)
 
 triples_fit : (cs : List (List ℤ)) → AllByRecursion IsCorner cs → All (FitsSigned w32) (flat_map triple_of cs)
 triples_fit [] h = All-nil (FitsSigned w32)
 triples_fit (c ∷ cs) h = All-append (FitsSigned w32) (triple_of c) (flat_map triple_of cs) (subst (λ (l : List ℤ). All (FitsSigned w32) l) (sym (triple_is c h.0.0)) h.0.1) (triples_fit cs h.1)
 
-corners_fit : (pieces : List Piece) → AllByRecursion (λ (p : Piece). All IsCorner p.corners) pieces → All (FitsSigned w32) (corners_of pieces)
+corners_fit : (pieces : List Piece) → AllByRecursion (λ (p : Piece). All IsCorner p.corners) pieces → All (FitsSigned w32) (corner_column pieces)
 corners_fit [] h = All-nil (FitsSigned w32)
-corners_fit (p ∷ ps) h = All-append (FitsSigned w32) (piece_corners p) (corners_of ps) (triples_fit p.corners (recursion_from_All IsCorner p.corners h.0)) (corners_fit ps h.1)
+corners_fit (p ∷ ps) h = All-append (FitsSigned w32) (corner_numbers p) (corner_column ps) (triples_fit p.corners (recursion_from_All IsCorner p.corners h.0)) (corners_fit ps h.1)
 
 -- the numbers of the five variables
 values_again : (faces_a faces_b : ℕ) (p : Piece) (ps : List Piece) → IsSoundOverlap (parts_of faces_a faces_b (p ∷ ps)) → HasCorners (parts_of faces_a faces_b (p ∷ ps))
-    → lists_in (file_for faces_a faces_b p ps) (file_of (overlap_document (parts_of faces_a faces_b (p ∷ ps)))) (0 ∷ 1 ∷ 2 ∷ 3 ∷ 4 ∷ []) ≡ sources_of (p ∷ ps) ∷ targets_of (p ∷ ps) ∷ ring_sizes_of (p ∷ ps) ∷ ring_planes_of (p ∷ ps) ∷ corners_of (p ∷ ps) ∷ []
+    → lists_in (file_for faces_a faces_b p ps) (file_of (overlap_document (parts_of faces_a faces_b (p ∷ ps)))) (0 ∷ 1 ∷ 2 ∷ 3 ∷ 4 ∷ []) ≡ source_column (p ∷ ps) ∷ target_column (p ∷ ps) ∷ ring_size_column (p ∷ ps) ∷ ring_plane_column (p ∷ ps) ∷ corner_column (p ∷ ps) ∷ []
 unfolding overlap_document
 values_again faces_a faces_b p ps h corners =
     let pieces = p ∷ ps in
     let o = parts_of faces_a faces_b pieces in
     let doc = overlap_document o in
     let small = all_small o h in
-    let sources : All (FitsSigned w32) (sources_of pieces) = All-map (FitsSigned w32) (λ (q : Piece). pos q.a) pieces (λ i d below. int_fits (slice_index_or pieces i d).a (small i d below).source) in
-    let targets : All (FitsSigned w32) (targets_of pieces) = All-map (FitsSigned w32) (λ (q : Piece). pos q.b) pieces (λ i d below. int_fits (slice_index_or pieces i d).b (small i d below).target) in
-    let sizes : All (FitsSigned w8) (ring_sizes_of pieces) = All-map (FitsSigned w8) (λ (q : Piece). pos (length q.ring.items)) pieces (λ i d below. byte_fits (length (slice_index_or pieces i d).ring.items) (small i d below).greatest_size) in
+    let sources : All (FitsSigned w32) (source_column pieces) = All-map (FitsSigned w32) (λ (q : Piece). pos q.a) pieces (λ i d below. int_fits (slice_index_or pieces i d).a (small i d below).source) in
+    let targets : All (FitsSigned w32) (target_column pieces) = All-map (FitsSigned w32) (λ (q : Piece). pos q.b) pieces (λ i d below. int_fits (slice_index_or pieces i d).b (small i d below).target) in
+    let sizes : All (FitsSigned w8) (ring_size_column pieces) = All-map (FitsSigned w8) (λ (q : Piece). pos (length q.ring.items)) pieces (λ i d below. byte_fits (length (slice_index_or pieces i d).ring.items) (small i d below).greatest_size) in
     let planes = planes_fit pieces (recursion_from_All (λ (q : Piece). All IsRingNumber q.ring.items) pieces (λ i d below. (small i d below).numbers)) in
     let typed : All HasTypedValues doc.vars = All-from_recursion HasTypedValues doc.vars (sources, (targets, (sizes, (planes, (corners_fit pieces (recursion_from_All (λ (q : Piece). All IsCorner q.corners) pieces corners), tt))))) in
     let all = doc_values doc (overlap_document_form o h) typed in
@@ -151,7 +152,7 @@ some_again faces_a faces_b p ps h typed =
     let file = file_for faces_a faces_b p ps in
     let bytes = file_of (overlap_document o) in
     let v = vars_of o in
-    let values = sources_of pieces ∷ targets_of pieces ∷ ring_sizes_of pieces ∷ ring_planes_of pieces ∷ corners_of pieces ∷ [] in
+    let values = source_column pieces ∷ target_column pieces ∷ ring_size_column pieces ∷ ring_plane_column pieces ∷ corner_column pieces ∷ [] in
     let some : 1 ≤ corner_count_of pieces = omega (arith, least_count pieces (recursion_from_All _ pieces (all_small o h))) in
     let counts = counts_again o h in
     let five = five_again file faces_a faces_b (length pieces) (corner_count_of pieces) (source_again faces_a faces_b p ps) (target_again faces_a faces_b p ps) (size_again faces_a faces_b p ps) (planes_again faces_a faces_b p ps some) (corner_again faces_a faces_b p ps some) in

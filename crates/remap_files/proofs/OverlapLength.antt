@@ -20,7 +20,8 @@ use Rattle.nc_write.specs.Form.{IsWellFormed, full_lens}
 use Rattle.nc_write.proofs.PartLengths.{length_variable, header_len_is}
 use Rattle.nc_write.proofs.Places.{length_fixed_data, length_file_of_fixed}
 use Rattle.remap_files.specs.Written.{HasSmallNumbers}
-use Rattle.remap_files.specs.OverlapDocument.{variable_of, sources_of, targets_of, ring_sizes_of, ring_of, ring_planes_of, triple_of, piece_corners, corners_of, corner_count_of, overlap_atts, overlap_dims, overlap_vars, overlap_document, overlap_file_len}
+use Rattle.clip.specs.Columns.{source_column, target_column, ring_size_column, ring_numbers, ring_plane_column, triple_of, corner_numbers, corner_column}
+use Rattle.remap_files.specs.OverlapDocument.{variable_of, corner_count_of, overlap_atts, overlap_dims, overlap_vars, overlap_document, overlap_file_len}
 
 -- Pieces.
 
@@ -46,10 +47,10 @@ pub greatest_count : (pieces : List Piece) → AllByRecursion HasSmallNumbers pi
 greatest_count [] h = omega arith
 greatest_count (p ∷ ps) h = omega (arith, h.0.greatest_size, greatest_count ps h.1, sum_by-cons (λ (q : Piece). length q.ring.items) p ps)
 
-pub length_planes : (pieces : List Piece) → length (ring_planes_of pieces) ≡ corner_count_of pieces
+pub length_planes : (pieces : List Piece) → length (ring_plane_column pieces) ≡ corner_count_of pieces
 length_planes [] = refl
 length_planes (p ∷ ps) =
-    omega (arith, length-append (ring_of p) (ring_planes_of ps), length-map p.ring.items (λ n. pos n), length_planes ps, sum_by-cons (λ (q : Piece). length q.ring.items) p ps)
+    omega (arith, length-append (ring_numbers p) (ring_plane_column ps), length-map p.ring.items (λ n. pos n), length_planes ps, sum_by-cons (λ (q : Piece). length q.ring.items) p ps)
 
 length_triples : (corners : List (List ℤ)) → length (flat_map triple_of corners) ≡ 3 * length corners
 length_triples [] = refl
@@ -59,10 +60,10 @@ length_triples (c ∷ cs) = omega (arith, length-append (triple_of c) (flat_map 
 abbrev pub HasItsCorners : Piece → Type 0
 HasItsCorners p = length p.corners ≡ length p.ring.items
 
-pub length_corners : (pieces : List Piece) → AllByRecursion HasItsCorners pieces → length (corners_of pieces) ≡ 3 * corner_count_of pieces
+pub length_corners : (pieces : List Piece) → AllByRecursion HasItsCorners pieces → length (corner_column pieces) ≡ 3 * corner_count_of pieces
 length_corners [] h = refl
 length_corners (p ∷ ps) h =
-    omega (arith, h.0, length-append (piece_corners p) (corners_of ps), length_triples p.corners, length_corners ps h.1, sum_by-cons (λ (q : Piece). length q.ring.items) p ps)
+    omega (arith, h.0, length-append (corner_numbers p) (corner_column ps), length_triples p.corners, length_corners ps h.1, sum_by-cons (λ (q : Piece). length q.ring.items) p ps)
 
 -- The header.
 
@@ -98,11 +99,11 @@ parts_length doc pieces faces_a faces_b version dims atts vars =
     let wide : width (version_of doc) ≡ 4 = ap width version ∙ width_is in
     let dims_are : length (flat_map (dimension (version_of doc)) doc.dims) ≡ 56 = ap₂ (λ v l. length (flat_map (dimension v) l)) version dims ∙ dims_length (length pieces) (corner_count_of pieces) in
     let atts_are : length (flat_map (attribute (version_of doc)) doc.atts) ≡ 72 = ap₂ (λ v l. length (flat_map (attribute v) l)) version atts ∙ atts_length faces_a faces_b (length pieces) in
-    let source = variable_of (codes "source") (0 ∷ []) (Int (sources_of pieces)) in
-    let target = variable_of (codes "target") (0 ∷ []) (Int (targets_of pieces)) in
-    let size = variable_of (codes "ring_size") (0 ∷ []) (Byte (ring_sizes_of pieces)) in
-    let plane = variable_of (codes "ring_plane") (1 ∷ []) (Byte (ring_planes_of pieces)) in
-    let corner = variable_of (codes "corner") (1 ∷ 2 ∷ []) (Int (corners_of pieces)) in
+    let source = variable_of (codes "source") (0 ∷ []) (Int (source_column pieces)) in
+    let target = variable_of (codes "target") (0 ∷ []) (Int (target_column pieces)) in
+    let size = variable_of (codes "ring_size") (0 ∷ []) (Byte (ring_size_column pieces)) in
+    let plane = variable_of (codes "ring_plane") (1 ∷ []) (Byte (ring_plane_column pieces)) in
+    let corner = variable_of (codes "corner") (1 ∷ 2 ∷ []) (Int (corner_column pieces)) in
     let len : DocVar → ℕ = λ v. length (variable doc 0 v) in
     let vars_are : sum_by len doc.vars ≡ len source + len target + len size + len plane + len corner = ap (λ l. sum_by len l) vars ∙ sum_of_five len source target size plane corner in
     omega (
@@ -188,18 +189,18 @@ length_some faces_a faces_b p ps small matched =
     let k = corner_count_of pieces in
     let doc = overlap_document (parts_of faces_a faces_b pieces) in
     let some : 1 ≤ k = omega (arith, least_count pieces small) in
-    let source = variable_of (codes "source") (0 ∷ []) (Int (sources_of pieces)) in
-    let target = variable_of (codes "target") (0 ∷ []) (Int (targets_of pieces)) in
-    let size = variable_of (codes "ring_size") (0 ∷ []) (Byte (ring_sizes_of pieces)) in
-    let plane = variable_of (codes "ring_plane") (1 ∷ []) (Byte (ring_planes_of pieces)) in
-    let corner = variable_of (codes "corner") (1 ∷ 2 ∷ []) (Int (corners_of pieces)) in
+    let source = variable_of (codes "source") (0 ∷ []) (Int (source_column pieces)) in
+    let target = variable_of (codes "target") (0 ∷ []) (Int (target_column pieces)) in
+    let size = variable_of (codes "ring_size") (0 ∷ []) (Byte (ring_size_column pieces)) in
+    let plane = variable_of (codes "ring_plane") (1 ∷ []) (Byte (ring_plane_column pieces)) in
+    let corner = variable_of (codes "corner") (1 ∷ 2 ∷ []) (Int (corner_column pieces)) in
     let len : DocVar → ℕ = λ v. length (fixed_data doc v) in
     let all : sum_by len doc.vars ≡ len source + len target + len size + len plane + len corner = ap (λ l. sum_by len l) (vars_are faces_a faces_b p ps) ∙ sum_of_five len source target size plane corner in
-    let sources : len source ≡ 4 * n = ints_length doc source (sources_of pieces) n (along_pieces faces_a faces_b p ps (codes "source") (Int (sources_of pieces))) refl (length-map pieces (λ (q : Piece). pos q.a)) in
-    let targets : len target ≡ 4 * n = ints_length doc target (targets_of pieces) n (along_pieces faces_a faces_b p ps (codes "target") (Int (targets_of pieces))) refl (length-map pieces (λ (q : Piece). pos q.b)) in
-    let sizes : len size ≡ rounded n = bytes_length doc size (ring_sizes_of pieces) n (along_pieces faces_a faces_b p ps (codes "ring_size") (Byte (ring_sizes_of pieces))) refl (length-map pieces (λ (q : Piece). pos (length q.ring.items))) in
-    let planes : len plane ≡ rounded k = bytes_length doc plane (ring_planes_of pieces) k (along_corners faces_a faces_b p ps [] (codes "ring_plane") (Byte (ring_planes_of pieces)) some) refl (length_planes pieces) in
-    let corners : len corner ≡ 4 * (3 * k) = ints_length doc corner (corners_of pieces) (3 * k) (along_corners faces_a faces_b p ps (2 ∷ []) (codes "corner") (Int (corners_of pieces)) some) refl (length_corners pieces matched) in
+    let sources : len source ≡ 4 * n = ints_length doc source (source_column pieces) n (along_pieces faces_a faces_b p ps (codes "source") (Int (source_column pieces))) refl (length-map pieces (λ (q : Piece). pos q.a)) in
+    let targets : len target ≡ 4 * n = ints_length doc target (target_column pieces) n (along_pieces faces_a faces_b p ps (codes "target") (Int (target_column pieces))) refl (length-map pieces (λ (q : Piece). pos q.b)) in
+    let sizes : len size ≡ rounded n = bytes_length doc size (ring_size_column pieces) n (along_pieces faces_a faces_b p ps (codes "ring_size") (Byte (ring_size_column pieces))) refl (length-map pieces (λ (q : Piece). pos (length q.ring.items))) in
+    let planes : len plane ≡ rounded k = bytes_length doc plane (ring_plane_column pieces) k (along_corners faces_a faces_b p ps [] (codes "ring_plane") (Byte (ring_plane_column pieces)) some) refl (length_planes pieces) in
+    let corners : len corner ≡ 4 * (3 * k) = ints_length doc corner (corner_column pieces) (3 * k) (along_corners faces_a faces_b p ps (2 ∷ []) (codes "corner") (Int (corner_column pieces)) some) refl (length_corners pieces matched) in
     let filled : (if n == 0 then 104 else 392 + 4 * n + 4 * n + rounded n + rounded k + 12 * k) ≡ 392 + 4 * n + 4 * n + rounded n + rounded k + 12 * k = ap (λ b. if b then 104 else 392 + 4 * n + 4 * n + rounded n + rounded k + 12 * k) (not_zero n (omega arith)) in
     let whole : length (file_of doc) ≡ 392 + 4 * n + 4 * n + rounded n + rounded k + 12 * k = sums n k _ _ _ _ _ _ _ _ _ _ (length_file_of_fixed doc (no_records (parts_of faces_a faces_b pieces))) (header_is faces_a faces_b p ps) all sources targets sizes planes corners in
     whole ∙ sym filled

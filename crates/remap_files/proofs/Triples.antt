@@ -1,7 +1,7 @@
 -- Numbers three by three.
 use Rattle.std.proofs.Common.{◌≡◌, ◌<◌, ◌+◌, ◌-◌, ℕ, zero, suc, ℤ, List, [], ◌∷◌, length, take, drop, refl, ap, ap₂, sym, ◌∙◌, arith}
 use Rattle.exodus_mesh.specs.MeshValues.{rows_of}
-use Rattle.remap_files.specs.OverlapDocument.{triple_of}
+use Rattle.clip.specs.Columns.{triple_of}
 
 -- a list of three numbers is the triple of them
 pub triple_is : (c : List ℤ) → length c ≡ 3 → triple_of c ≡ c

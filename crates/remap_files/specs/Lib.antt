@@ -6,3 +6,4 @@ pub mod OverlapRows
 pub mod OverlapIn
 pub mod Rows
 pub mod Found
+pub mod InColumns

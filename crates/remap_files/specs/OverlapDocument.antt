@@ -3,6 +3,7 @@ use Rattle.std.specs.Prelude.{ℕ, ◌+◌, ◌*◌, ◌==◌, ℤ, pos, List, [
 use Rattle.std.specs.List.{flat_map, sum_by}
 use Rattle.std.specs.Int.{w32}
 use Rattle.clip.specs.declared.pieces.Piece.{Piece}
+use Rattle.clip.specs.Columns.{source_column, target_column, ring_size_column, ring_plane_column, corner_column}
 use Rattle.clip.specs.Overlaps.{OverlapParts}
 use Rattle.nc_write.specs.declared.NcDoc.{NcDoc}
 use Rattle.nc_write.specs.declared.DocDim.{DocDim}
@@ -18,33 +19,6 @@ attribute_of name value = record { name = name; value = pos value }
 
 abbrev pub variable_of : List ℕ → List ℕ → Values → DocVar
 variable_of name dims values = record { name = name; dims = dims; values = values }
-
--- the source faces, the target faces and the lengths of the rings, piece by piece
-abbrev pub sources_of : List Piece → List ℤ
-sources_of pieces = map (λ (p : Piece). pos p.a) pieces
-
-abbrev pub targets_of : List Piece → List ℤ
-targets_of pieces = map (λ (p : Piece). pos p.b) pieces
-
-abbrev pub ring_sizes_of : List Piece → List ℤ
-ring_sizes_of pieces = map (λ (p : Piece). pos (length p.ring.items)) pieces
-
--- all rings, one after another
-abbrev pub ring_of : Piece → List ℤ
-ring_of p = map (λ n. pos n) p.ring.items
-
-abbrev pub ring_planes_of : List Piece → List ℤ
-ring_planes_of pieces = flat_map ring_of pieces
-
--- the x, the y and the z of each corner, one corner after another
-abbrev pub triple_of : List ℤ → List ℤ
-triple_of c = slice_index_or c 0 (pos 0) ∷ slice_index_or c 1 (pos 0) ∷ slice_index_or c 2 (pos 0) ∷ []
-
-abbrev pub piece_corners : Piece → List ℤ
-piece_corners p = flat_map triple_of p.corners
-
-abbrev pub corners_of : List Piece → List ℤ
-corners_of pieces = flat_map piece_corners pieces
 
 -- how many places all rings have together
 abbrev pub corner_count_of : List Piece → ℕ
@@ -71,11 +45,11 @@ overlap_dims pieces corners =
 
 abbrev pub overlap_vars : List Piece → List DocVar
 overlap_vars pieces =
-    variable_of (codes "source") (0 ∷ []) (Int (sources_of pieces))
-    ∷ variable_of (codes "target") (0 ∷ []) (Int (targets_of pieces))
-    ∷ variable_of (codes "ring_size") (0 ∷ []) (Byte (ring_sizes_of pieces))
-    ∷ variable_of (codes "ring_plane") (1 ∷ []) (Byte (ring_planes_of pieces))
-    ∷ variable_of (codes "corner") (1 ∷ 2 ∷ []) (Int (corners_of pieces))
+    variable_of (codes "source") (0 ∷ []) (Int (source_column pieces))
+    ∷ variable_of (codes "target") (0 ∷ []) (Int (target_column pieces))
+    ∷ variable_of (codes "ring_size") (0 ∷ []) (Byte (ring_size_column pieces))
+    ∷ variable_of (codes "ring_plane") (1 ∷ []) (Byte (ring_plane_column pieces))
+    ∷ variable_of (codes "corner") (1 ∷ 2 ∷ []) (Int (corner_column pieces))
     ∷ []
 
 unfoldable pub overlap_document : OverlapParts → NcDoc

@@ -2,7 +2,8 @@
 ghost use Rattle.std.specs.Prelude.{◌≡◌, ◌<◌, ◌*◌, ◌^◌, ◌++◌, IfOk, OnOk, All, map, flat_map, pos};
 ghost use Rattle.remap_files.specs.Written.{HasSmallNumbers};
 ghost use Rattle.clip.specs.Overlaps.{IsRingNumber};
-ghost use Rattle.remap_files.specs.OverlapDocument.{sources_of, targets_of, ring_sizes_of, ring_of, ring_planes_of, triple_of, piece_corners, corners_of, IsCorner};
+ghost use Rattle.clip.specs.Columns.{source_column, target_column, ring_size_column, ring_numbers, ring_plane_column, triple_of, corner_numbers, corner_column};
+ghost use Rattle.remap_files.specs.OverlapDocument.{IsCorner};
 ghost use Rattle.clip.specs.declared.pieces.Piece.{Piece};
 
 use clip::Piece;
@@ -10,7 +11,7 @@ use std::alloc::{AllocError, Global};
 
 pub fn sources(alloc: Global, pieces: &[Piece]) -> Result<Vec<i32>, AllocError>
     requires { All HasSmallNumbers pieces.now }
-    ensures { IfOk result (λ values. values.items ≡ sources_of pieces.now) }
+    ensures { IfOk result (λ values. values.items ≡ source_column pieces.now) }
 {
     let mut values = Vec::with_capacity(alloc, pieces.len())?;
     for piece in pieces {
@@ -21,7 +22,7 @@ pub fn sources(alloc: Global, pieces: &[Piece]) -> Result<Vec<i32>, AllocError>
 
 pub fn targets(alloc: Global, pieces: &[Piece]) -> Result<Vec<i32>, AllocError>
     requires { All HasSmallNumbers pieces.now }
-    ensures { IfOk result (λ values. values.items ≡ targets_of pieces.now) }
+    ensures { IfOk result (λ values. values.items ≡ target_column pieces.now) }
 {
     let mut values = Vec::with_capacity(alloc, pieces.len())?;
     for piece in pieces {
@@ -31,7 +32,7 @@ pub fn targets(alloc: Global, pieces: &[Piece]) -> Result<Vec<i32>, AllocError>
 }
 
 pub fn ring_sizes(alloc: Global, pieces: &[Piece]) -> Result<Vec<i8>, AllocError>
-    ensures { IfOk result (λ values. values.items ≡ ring_sizes_of pieces.now) }
+    ensures { IfOk result (λ values. values.items ≡ ring_size_column pieces.now) }
 {
     let mut values = Vec::with_capacity(alloc, pieces.len())?;
     for piece in pieces {
@@ -52,7 +53,7 @@ fn put_ring(values: &mut Vec<i8>, ring: &[u8]) -> Result<(), AllocError>
 
 pub fn ring_planes(alloc: Global, pieces: &[Piece], count: usize) -> Result<Vec<i8>, AllocError>
     requires { All HasSmallNumbers pieces.now }
-    ensures { IfOk result (λ values. values.items ≡ ring_planes_of pieces.now) }
+    ensures { IfOk result (λ values. values.items ≡ ring_plane_column pieces.now) }
 {
     let mut values = Vec::with_capacity(alloc, count)?;
     for piece in pieces {
@@ -83,7 +84,7 @@ fn put_corners(values: &mut Vec<i32>, corners: &[[i32; 3]]) -> Result<(), AllocE
 }
 
 fn put_piece(values: &mut Vec<i32>, piece: &Piece) -> Result<(), AllocError>
-    ensures values { OnOk result (values.new.items ≡ values.old.items ++ piece_corners piece.now) }
+    ensures values { OnOk result (values.new.items ≡ values.old.items ++ corner_numbers piece.now) }
     ensures typed { OnOk result (All IsCorner piece.now.corners) }
 {
     put_corners(values, piece.corners.items.as_slice())
@@ -91,7 +92,7 @@ fn put_piece(values: &mut Vec<i32>, piece: &Piece) -> Result<(), AllocError>
 
 pub fn corners(alloc: Global, pieces: &[Piece], count: usize) -> Result<Vec<i32>, AllocError>
     requires { 3 * count < 2 ^ 63 }
-    ensures values { IfOk result (λ values. values.items ≡ corners_of pieces.now) }
+    ensures values { IfOk result (λ values. values.items ≡ corner_column pieces.now) }
     ensures typed { OnOk result (All (λ (p : Piece). All IsCorner p.corners) pieces.now) }
 {
     let mut values = Vec::with_capacity(alloc, 3 * count)?;

@@ -19,7 +19,7 @@ use nc_write::{Bytes8, DocAtt, DocAtts, DocDim, DocDims, DocVar, DocVars, NcDoc,
 use std::alloc::{AllocError, Global};
 use vec_exact::{Ints, NoMemory};
 
-fn make_attributes(
+pub fn make_attributes(
     alloc: Global,
     faces_a: u32,
     faces_b: u32,
@@ -37,7 +37,7 @@ fn make_attributes(
     Ok(atts)
 }
 
-fn make_dimensions(alloc: Global, pieces: u32, corners: u32) -> Result<Vec<DocDim>, AllocError>
+pub fn make_dimensions(alloc: Global, pieces: u32, corners: u32) -> Result<Vec<DocDim>, AllocError>
     ensures { IfOk result (λ dims. dims.items ≡ overlap_dims pieces corners) }
 {
     let mut dims = Vec::with_capacity(alloc, 3)?;
@@ -47,13 +47,13 @@ fn make_dimensions(alloc: Global, pieces: u32, corners: u32) -> Result<Vec<DocDi
     Ok(dims)
 }
 
-fn ints(items: Vec<i32>) -> Values
+pub fn ints(items: Vec<i32>) -> Values
     ensures { result ≡ Int items.items }
 {
     Values::Int(Ints { items })
 }
 
-fn bytes(items: Vec<i8>) -> Values
+pub fn bytes(items: Vec<i8>) -> Values
     ensures { result ≡ Byte items.items }
 {
     Values::Byte(Bytes8 { items })

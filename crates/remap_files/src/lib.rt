@@ -1,6 +1,7 @@
 //! Overlaps in files.
 #![tactic(auto)]
 
+mod column_document;
 mod columns;
 mod document;
 mod faults;
@@ -15,6 +16,7 @@ mod tests;
 mod variables;
 mod vars;
 
+pub use column_document::{columns_doc, columns_length};
 pub use document::overlap_doc;
 pub use faults::FileFault;
 pub use finding::find_overlap;

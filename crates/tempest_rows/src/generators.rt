@@ -63,8 +63,8 @@ fn the_smallest_cubed_sphere_over_steady_types(rt: HostRuntime) -> Result<(), Fa
     Ok(())
 }
 
-// Lengths of larger cubed spheres: words, text, bytes of the file.
-const LARGER: [(&str, &str, usize); 2] = [
+// Words, text, and bytes of the file.
+const MESHES: [(&str, &str, usize); 6] = [
     (
         "GenerateCSMesh --res 2 --file m.g",
         "faces 24 nodes 26\n",
@@ -75,17 +75,69 @@ const LARGER: [(&str, &str, usize); 2] = [
         "faces 21600 nodes 21602\n",
         605072,
     ),
+    (
+        "GenerateRLLMesh --lon 4 --lat 2 --file m.g",
+        "faces 8 nodes 6\n",
+        416,
+    ),
+    (
+        "GenerateRLLMesh --lon 240 --lat 120 --file m.g",
+        "faces 28800 nodes 28562\n",
+        803792,
+    ),
+    (
+        "GenerateICOMesh --res 1 --file m.g",
+        "faces 20 nodes 12\n",
+        632,
+    ),
+    (
+        "GenerateICOMesh --res 1 --dual --file m.g",
+        "faces 12 nodes 20\n",
+        728,
+    ),
 ];
 
 #[test]
-fn larger_cubed_spheres_have_their_length(rt: HostRuntime) -> Result<(), Fail> {
-    for (text, put, len) in LARGER {
+fn generated_meshes_have_their_text_and_length(rt: HostRuntime) -> Result<(), Fail> {
+    for (text, put, len) in MESHES {
         let mut row = Run::new(rt.alloc());
         let status = row.go(&rt, rt.alloc(), text)?;
         assert_eq!(rt; status, Status::Done, "at {text}");
         assert_eq!(rt; row.out.bytes(), put.as_bytes());
         let written = row.files.get("m.g").map(|bytes| bytes.len());
         assert_eq!(rt; written, Some(len), "at {text}");
+    }
+    Ok(())
+}
+
+// The faces of the smallest latitude-longitude mesh: triangles round the south pole, then round the
+// north pole.
+const TRIANGLES: [[u8; 3]; 8] = [
+    [1, 3, 2],
+    [1, 4, 3],
+    [1, 5, 4],
+    [1, 2, 5],
+    [2, 3, 6],
+    [3, 4, 6],
+    [4, 5, 6],
+    [5, 2, 6],
+];
+
+#[test]
+fn the_faces_of_the_smallest_latitude_longitude_mesh(rt: HostRuntime) -> Result<(), Fail> {
+    let mut row = Run::new(rt.alloc());
+    row.go(
+        &rt,
+        rt.alloc(),
+        "GenerateRLLMesh --lon 4 --lat 2 --file m.g",
+    )?;
+    let file = row.files.get("m.g").unwrap_or(b"");
+    // behind the header of 248 bytes and the six nodes
+    let mut numbers = file.iter().skip(320 + 3).step_by(4);
+    for face in TRIANGLES {
+        for number in face {
+            assert_eq!(rt; numbers.next().copied(), Some(number));
+        }
     }
     Ok(())
 }

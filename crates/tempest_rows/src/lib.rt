@@ -2,14 +2,24 @@
 #![tactic(auto)]
 
 #[cfg(test)]
+mod damaged;
+#[cfg(test)]
 mod failing;
 #[cfg(test)]
 mod generators;
 #[cfg(test)]
 mod machine;
 #[cfg(test)]
+mod meshes;
+#[cfg(test)]
+mod overlaps;
+#[cfg(test)]
+mod reading;
+#[cfg(test)]
 mod rings;
 #[cfg(test)]
 mod runs;
 #[cfg(test)]
 mod words;
+#[cfg(test)]
+mod workers;

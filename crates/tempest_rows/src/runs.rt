@@ -31,6 +31,20 @@ impl Run {
         }
     }
 
+    /// New sinks, which hold nothing.
+    pub(crate) fn renew_sinks(&mut self, alloc: Global) {
+        self.out = MemSink::new(alloc, Vec::new(alloc));
+        self.err = MemSink::new(alloc, Vec::new(alloc));
+    }
+
+    /// Places a file, without a counted call.
+    pub(crate) fn place(&mut self, name: &str, bytes: &[u8]) -> Result<(), AllocError> {
+        match self.files.put_file(name, bytes) {
+            Ok(()) => Ok(()),
+            Err(_) => Err(AllocError),
+        }
+    }
+
     /// Runs the words.
     pub(crate) fn go(
         &mut self,

@@ -1,110 +1,88 @@
--- A command has at most one outcome, and what a refusal before any call of a device keeps.
-use Rattle.std.proofs.Common.{◌≡◌, ◌∙◌, ℕ, List, true, Option, Some, None, codes, refl, sym, ap, subst, inl, append-nil}
+-- A command has at most one outcome, and which outcomes there are.
+use Rattle.std.proofs.Common.{◌≡◌, ◌∙◌, ℕ, List, length, true, Option, Some, None, codes, refl, sym, ap, subst, inl, inr, arith}
+use Rattle.vec_exact.specs.declared.RawMesh.{RawMesh}
 use Rattle.remap_io.specs.Folder.{Folder}
-use Rattle.remap_io.specs.Held.{GainsPart}
+use Rattle.nc_write.specs.declared.NcDoc.{NcDoc}
+use Rattle.mesh_check.specs.declared.faults.MeshFault.{MeshFault}
+use Rattle.mesh_check.specs.Mesh.{IsAcceptedMesh}
+use Rattle.mesh_check.proofs.FirstFaults.{same_first_fault, no_first_fault}
+use Rattle.mesh_load.specs.declared.MeshRefusal.{MeshRefusal}
+use Rattle.clip.specs.Overlaps.{OverlapParts}
+use Rattle.remap_files.specs.OverlapDocument.{overlap_document}
+use Rattle.gen_ico.proofs.One.{one_made as one_icosahedral}
 use Rattle.command_line.specs.declared.choices.Chosen.{Chosen}
 use Rattle.command_line.specs.declared.choices.Chosen.TheVariants.{Cs, Rll, Ico, Overlap, OfflineMap, Apply, SelfRun, Coverage, Check}
-use Rattle.tempest_top.specs.declared.status.Status.{Status}
-use Rattle.tempest_top.specs.declared.status.Status.TheVariants.{Usage, NoMemory}
-use Rattle.tempest_top.specs.Lines.{line_of, GainsLine}
-use Rattle.tempest_top.specs.Outcome.{Output, Outcome, IsOutcome, TheOutcome, refusal, is_usage}
-use Rattle.tempest_top.specs.Promises.{Keeps, IsPartlyWritten}
+use Rattle.tempest_top.specs.declared.status.Status.TheVariants.{Usage, Limit}
+use Rattle.tempest_top.specs.Lines.{pieces_text}
+use Rattle.tempest_top.specs.Faults.{mesh_refusal_text, status_of_mesh, too_many_pieces_text}
+use Rattle.tempest_top.specs.Outcome.{Outcome, IsOutcome, IsOutcomeOfMade, IsOutcomeOfDocument, IsOutcomeOfPair, AfterMesh, refusal, fault_of_made, mesh_written, is_usage}
+use Rattle.mesh_load.proofs.OneAnswer.{one_mesh, one_refusal, no_refused_mesh}
+use Rattle.tempest_top.proofs.OnePair.{one_count, one_overlap, count_of_overlap}
 
 -- what two outcomes are equal to
 same : (o p q : Outcome) → o ≡ q → p ≡ q → o ≡ p
 same o p q e f = e ∙ sym f
 
+-- a mesh that was made has one outcome
+one_made : (raw : RawMesh) (file : List ℕ) (m : Option Folder) (o p : Outcome) → IsOutcomeOfMade raw file m o → IsOutcomeOfMade raw file m p → o ≡ p
+one_made raw file m o p (inl a) (inl b) = a.2 ∙ ap (λ (fault : MeshFault). fault_of_made fault m) (same_first_fault raw a.0 b.0 a.1 b.1) ∙ sym b.2
+one_made raw file m o p (inl a) (inr b) = absurd (b.0 a.0 a.1)
+one_made raw file m o p (inr a) (inl b) = absurd (a.0 b.0 b.1)
+one_made raw file m o p (inr a) (inr b) = same o p _ a.1 b.1
+
+-- and so has a document
+one_document : (doc : NcDoc) (text file : List ℕ) (m : Option Folder) (o p : Outcome) → IsOutcomeOfDocument doc text file m o → IsOutcomeOfDocument doc text file m p → o ≡ p
+one_document doc text file m o p (inl a) (inl b) = same o p _ a.1 b.1
+one_document doc text file m o p (inl a) (inr b) = absurd (omega (arith, a.0, b.0))
+one_document doc text file m o p (inr a) (inl b) = absurd (omega (arith, a.0, b.0))
+one_document doc text file m o p (inr a) (inr b) = same o p _ a.1 b.1
+
+-- what becomes of an overlap
+abbrev of_overlap : List ℕ → Option Folder → Outcome → OverlapParts → Type 0
+of_overlap file m o overlap = IsOutcomeOfDocument (overlap_document overlap) (pieces_text (length overlap.pieces)) file m o
+
+-- and so have two meshes
+one_pair : (source target : RawMesh) (file : List ℕ) (m : Option Folder) (o p : Outcome) → IsOutcomeOfPair source target file m o → IsOutcomeOfPair source target file m p → o ≡ p
+one_pair source target file m o p (inl a) (inl b) = a.3 ∙ ap (λ (n : ℕ). refusal Limit (too_many_pieces_text n) m) (one_count source target a.0 b.0 a.1 b.1) ∙ sym b.3
+one_pair source target file m o p (inl a) (inr b) = absurd (omega (arith, a.2, b.2, count_of_overlap source target b.0 a.0 b.1 a.1))
+one_pair source target file m o p (inr a) (inl b) = absurd (omega (arith, a.2, b.2, count_of_overlap source target a.0 b.0 a.1 b.1))
+one_pair source target file m o p (inr a) (inr b) = one_document _ _ file m o p a.3 (subst (of_overlap file m p) (one_overlap source target b.0 a.0 b.1 a.1) b.3)
+
+-- and so has what follows a mesh file, where what follows its mesh has
+one_after : (m : Option Folder) (file : List ℕ) (next : RawMesh → Outcome → Type 0) → ((mesh : RawMesh) (o p : Outcome) → next mesh o → next mesh p → o ≡ p) → (o p : Outcome) → AfterMesh m file next o → AfterMesh m file next p → o ≡ p
+one_after None file next one o p a b = absurd a
+one_after (Some m) file next one o p (inl a) (inl b) = a.2 ∙ ap (λ (why : MeshRefusal). refusal (status_of_mesh why) (mesh_refusal_text file why) (Some m)) (one_refusal m file a.0 b.0 a.1 b.1) ∙ sym b.2
+one_after (Some m) file next one o p (inl a) (inr b) = absurd (no_refused_mesh m file b.0 a.0 b.1 a.1)
+one_after (Some m) file next one o p (inr a) (inl b) = absurd (no_refused_mesh m file a.0 b.0 a.1 b.1)
+one_after (Some m) file next one o p (inr a) (inr b) = one a.0 o p a.2 (subst (λ (mesh : RawMesh). next mesh p) (one_mesh m file b.0 a.0 b.1 a.1) b.2)
+
 pub one_outcome : (chosen : Option Chosen) (m : Option Folder) (o p : Outcome) → IsOutcome chosen m o → IsOutcome chosen m p → o ≡ p
 one_outcome None m o p e f = same o p _ e f
 one_outcome (Some (Cs res file)) m o p e f = same o p _ e f
-one_outcome (Some (Rll lon lat file)) m o p e f = same o p _ e f
-one_outcome (Some (Ico res dual file)) m o p e f = same o p _ e f
-one_outcome (Some (Overlap a b out workers)) m o p e f = same o p _ e f
+one_outcome (Some (Rll lon lat file)) m o p e f = one_made _ file m o p e f
+one_outcome (Some (Ico res dual file)) m o p e f = one_made e.0 file m o p e.2 (subst (λ (raw : RawMesh). IsOutcomeOfMade raw file m p) (one_icosahedral res dual f.0 e.0 f.1 e.1) f.2)
+one_outcome (Some (Overlap a b out workers)) m o p e f =
+    one_after m a (λ source. AfterMesh m b (λ target. IsOutcomeOfPair source target out m))
+    (λ source. one_after m b (λ target. IsOutcomeOfPair source target out m) (λ target. one_pair source target out m)) o p e f
 one_outcome (Some (OfflineMap in_mesh out_mesh ov_mesh out_map)) m o p e f = same o p _ e f
 one_outcome (Some (Apply map var in_data out_data masked)) m o p e f = same o p _ e f
 one_outcome (Some (SelfRun n workers)) m o p e f = same o p _ e f
 one_outcome (Some (Coverage a b)) m o p e f = same o p _ e f
 one_outcome (Some (Check file workers)) m o p e f = same o p _ e f
 
+-- a mesh that is accepted is written
+pub accepted_made : (raw : RawMesh) (file : List ℕ) (m : Option Folder) → IsAcceptedMesh raw → IsOutcomeOfMade raw file m (mesh_written raw file m)
+accepted_made raw file m accepted = inr ((λ fault first. no_first_fault raw fault accepted first), refl)
+
 -- the outcome of words that are out of the grammar, or name a command that isn't there yet
 pub usage_outcome : (chosen : Option Chosen) (m : Option Folder) → is_usage chosen ≡ true → IsOutcome chosen m (refusal Usage (codes "usage") m)
 usage_outcome None m h = refl
 usage_outcome (Some (Cs res file)) m h = cc
-usage_outcome (Some (Rll lon lat file)) m h = refl
-usage_outcome (Some (Ico res dual file)) m h = refl
-usage_outcome (Some (Overlap a b out workers)) m h = refl
+usage_outcome (Some (Rll lon lat file)) m h = absurd cc
+usage_outcome (Some (Ico res dual file)) m h = absurd cc
+usage_outcome (Some (Overlap a b out workers)) m h = absurd cc
 usage_outcome (Some (OfflineMap in_mesh out_mesh ov_mesh out_map)) m h = refl
 usage_outcome (Some (Apply map var in_data out_data masked)) m h = refl
 usage_outcome (Some (SelfRun n workers)) m h = refl
 usage_outcome (Some (Coverage a b)) m h = refl
 usage_outcome (Some (Check file workers)) m h = refl
-
--- it is the only one
-pub the_outcome : (chosen : Option Chosen) (m : Option Folder) (P : Outcome → Type 0) (o : Outcome) → IsOutcome chosen m o → P o → TheOutcome chosen m P
-the_outcome chosen m P o is holds = (o, is, (λ p h. one_outcome chosen m p o h is), holds)
-
--- for each command there is an outcome
-pub any_outcome : (chosen : Option Chosen) (m : Option Folder) (P : Outcome → Type 0) → ((o : Outcome) → P o) → TheOutcome chosen m P
-any_outcome None m P all = the_outcome None m P _ refl (all _)
-any_outcome (Some (Cs res file)) m P all = the_outcome (Some (Cs res file)) m P _ refl (all _)
-any_outcome (Some (Rll lon lat file)) m P all = the_outcome (Some (Rll lon lat file)) m P _ refl (all _)
-any_outcome (Some (Ico res dual file)) m P all = the_outcome (Some (Ico res dual file)) m P _ refl (all _)
-any_outcome (Some (Overlap a b out workers)) m P all = the_outcome (Some (Overlap a b out workers)) m P _ refl (all _)
-any_outcome (Some (OfflineMap in_mesh out_mesh ov_mesh out_map)) m P all = the_outcome (Some (OfflineMap in_mesh out_mesh ov_mesh out_map)) m P _ refl (all _)
-any_outcome (Some (Apply map var in_data out_data masked)) m P all = the_outcome (Some (Apply map var in_data out_data masked)) m P _ refl (all _)
-any_outcome (Some (SelfRun n workers)) m P all = the_outcome (Some (SelfRun n workers)) m P _ refl (all _)
-any_outcome (Some (Coverage a b)) m P all = the_outcome (Some (Coverage a b)) m P _ refl (all _)
-any_outcome (Some (Check file workers)) m P all = the_outcome (Some (Check file workers)) m P _ refl (all _)
-
--- what holds of the outcome by what holds of it
-pub outcome_weaker : (chosen : Option Chosen) (m : Option Folder) (P Q : Outcome → Type 0) → ((o : Outcome) → P o → Q o) → TheOutcome chosen m P → TheOutcome chosen m Q
-outcome_weaker chosen m P Q f h = (h.0, h.1, h.2, f h.0 h.3)
-
--- a folder that is as it was
-same_folder : (output : Option Output) (m : Option Folder) → IsPartlyWritten output m m
-same_folder None m = refl
-same_folder (Some output) None = refl
-same_folder (Some output) (Some m) = inl refl
-
--- a sink that gained nothing
-same_text : (old : Option (List ℕ)) (text : List ℕ) → GainsPart old old text
-same_text None text = refl
-same_text (Some held) text = (0, ap Some (sym (append-nil held)))
-
--- want of memory before any call of a device
-pub keeps_no_memory : (o : Outcome) (m : Option Folder) (reads writes outs : Type 0) (out err new_err : Option (List ℕ)) (cause : Type 0) → GainsLine err new_err (line_of (codes "no memory")) cause → Keeps o m m reads writes outs out out err new_err cause NoMemory
-keeps_no_memory o m reads writes outs out err new_err cause line = record {
-  answer = tt;
-  done_folder = λ h. cc;
-  done_text = λ h. cc;
-  refused_folder = λ _. same_folder o.output m;
-  refused_text = λ _. same_text out o.text;
-  text_after_file = inl refl;
-  fault_after_file = λ h. cc;
-  refused_line = λ _. (line_of (codes "no memory"), refl, line);
-}
-
--- words that are out of the grammar
-pub keeps_usage : (m : Option Folder) (reads writes outs : Type 0) (out err new_err : Option (List ℕ)) (cause : Type 0) → GainsLine err new_err (line_of (codes "usage")) cause → Keeps (refusal Usage (codes "usage") m) m m reads writes outs out out err new_err cause Usage
-keeps_usage m reads writes outs out err new_err cause line = record {
-  answer = refl;
-  done_folder = λ h. cc;
-  done_text = λ h. cc;
-  refused_folder = λ _. refl;
-  refused_text = λ _. refl;
-  text_after_file = inl refl;
-  fault_after_file = λ h. cc;
-  refused_line = λ _. (line_of (codes "usage"), refl, line);
-}
-
-pub outcome_no_memory : (chosen : Option Chosen) (m : Option Folder) (reads writes outs : Type 0) (out err new_err : Option (List ℕ)) (cause : Type 0) (status : Status) → status ≡ NoMemory → GainsLine err new_err (line_of (codes "no memory")) cause
-    → TheOutcome chosen m (λ o. Keeps o m m reads writes outs out out err new_err cause status)
-outcome_no_memory chosen m reads writes outs out err new_err cause status is line =
-    any_outcome chosen m (λ o. Keeps o m m reads writes outs out out err new_err cause status)
-    (λ o. subst (λ s. Keeps o m m reads writes outs out out err new_err cause s) (sym is) (keeps_no_memory o m reads writes outs out err new_err cause line))
-
-pub outcome_usage : (chosen : Option Chosen) (m : Option Folder) (reads writes outs : Type 0) (out err new_err : Option (List ℕ)) (cause : Type 0) (status : Status) → is_usage chosen ≡ true → status ≡ Usage → GainsLine err new_err (line_of (codes "usage")) cause
-    → TheOutcome chosen m (λ o. Keeps o m m reads writes outs out out err new_err cause status)
-outcome_usage chosen m reads writes outs out err new_err cause status asked is line =
-    the_outcome chosen m (λ o. Keeps o m m reads writes outs out out err new_err cause status) (refusal Usage (codes "usage") m) (usage_outcome chosen m asked)
-    (subst (λ s. Keeps (refusal Usage (codes "usage") m) m m reads writes outs out out err new_err cause s) (sym is) (keeps_usage m reads writes outs out err new_err cause line))

@@ -6,6 +6,10 @@ use Rattle.vec_exact.specs.declared.RawMesh.{RawMesh}
 abbrev pub mesh_text : RawMesh → List ℕ
 mesh_text raw = codes "faces " ++ decimal (length raw.faces) ++ codes " nodes " ++ decimal (length raw.nodes) ++ codes "\n"
 
+-- what is put to the output for the pieces of two meshes
+abbrev pub pieces_text : ℕ → List ℕ
+pieces_text n = codes "pieces " ++ decimal n ++ codes "\n"
+
 -- the line of a refusal
 abbrev pub line_of : List ℕ → List ℕ
 line_of text = codes "tempest: " ++ text ++ codes "\n"

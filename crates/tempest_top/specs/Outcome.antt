@@ -1,14 +1,28 @@
 -- What a command comes to, apart from faults of devices and want of memory.
-use Rattle.std.specs.Prelude.{◌≡◌, ℕ, List, [], Bool, true, false, codes, Option, Some, None, option_map}
+use Rattle.std.specs.Prelude.{◌≡◌, ◌⊎◌, ℕ, ◌<◌, ◌≤◌, List, [], length, Bool, true, false, codes, Option, Some, None, option_map}
+use Rattle.vec_exact.specs.declared.RawMesh.{RawMesh}
 use Rattle.remap_io.specs.Folder.{Folder, with_file}
 use Rattle.nc_write.specs.File.{file_of}
+use Rattle.nc_write.specs.declared.NcDoc.{NcDoc}
+use Rattle.mesh_check.specs.declared.faults.MeshFault.{MeshFault}
+use Rattle.mesh_check.specs.FirstFault.{IsFirstMeshFault}
 use Rattle.gen_cs.specs.CubedSphere.{cubed_sphere}
+use Rattle.gen_rll.specs.LatitudeLongitude.{latitude_longitude}
+use Rattle.gen_ico.specs.Made.{IsMade}
 use Rattle.exodus_mesh.specs.MeshDocument.{mesh_document}
+use Rattle.mesh_load.specs.declared.MeshRefusal.{MeshRefusal}
+use Rattle.mesh_load.specs.MeshFile.{IsMeshFile, IsRefusedMesh}
+use Rattle.clip.specs.Overlaps.{OverlapParts}
+use Rattle.overlap_run.specs.Pairs.{IsPairCount}
+use Rattle.overlap_run.specs.Whole.{IsOverlapOf}
+use Rattle.remap_files.specs.OverlapDocument.{overlap_document}
 use Rattle.command_line.specs.declared.choices.Chosen.{Chosen}
-use Rattle.command_line.specs.declared.choices.Chosen.TheVariants.{Cs}
+use Rattle.command_line.specs.declared.choices.Chosen.TheVariants.{Cs, Rll, Ico, Overlap}
 use Rattle.tempest_top.specs.declared.status.Status.{Status}
-use Rattle.tempest_top.specs.declared.status.Status.TheVariants.{Done, Usage}
-use Rattle.tempest_top.specs.Lines.{mesh_text, line_of}
+use Rattle.tempest_top.specs.declared.status.Status.TheVariants.{Done, Usage, Mesh, Limit}
+use Rattle.tempest_top.specs.Lines.{mesh_text, pieces_text, line_of}
+use Rattle.tempest_top.specs.Faults.{mesh_fault_text, mesh_refusal_text, status_of_mesh, length_text, too_many_pieces_text}
+use Rattle.tempest_top.specs.Inputs.{inputs_of, AreTold}
 
 -- The output file of a command: its name and its new bytes.
 pub record Output : Type 0 where
@@ -31,25 +45,62 @@ refusal status text m = record { status = status; output = None; folder = m; tex
 abbrev pub written : Output → List ℕ → Option Folder → Outcome
 written output text m = record { status = Done; output = Some output; folder = option_map (λ f. with_file f output.name output.bytes) m; text = text; line = [] }
 
--- the file and the text of `GenerateCSMesh`
-unfoldable pub sphere_output : ℕ → List ℕ → Output
-sphere_output res name = record { name = name; bytes = file_of (mesh_document (cubed_sphere res)) }
+-- the file of a mesh
+unfoldable pub mesh_output : RawMesh → List ℕ → Output
+mesh_output raw name = record { name = name; bytes = file_of (mesh_document raw) }
 
-unfoldable pub sphere_text : ℕ → List ℕ
-sphere_text res = mesh_text (cubed_sphere res)
+-- The mesh is written to this file.
+abbrev pub mesh_written : RawMesh → List ℕ → Option Folder → Outcome
+mesh_written raw file m = written (mesh_output raw file) (mesh_text raw) m
+
+-- a mesh that was made has a fault
+abbrev pub fault_of_made : MeshFault → Option Folder → Outcome
+fault_of_made fault m = refusal Mesh (mesh_fault_text (codes "generated") fault) m
+
+-- A mesh that was made is tested: its first fault is refused, and a mesh without one is written.
+abbrev pub IsOutcomeOfMade : RawMesh → List ℕ → Option Folder → Outcome → Type 0
+IsOutcomeOfMade raw file m o =
+    ((fault : MeshFault) × IsFirstMeshFault raw fault × (o ≡ fault_of_made fault m))
+    ⊎ (((fault : MeshFault) → IsFirstMeshFault raw fault → ⊥) × (o ≡ mesh_written raw file m))
+
+-- A mesh file is dealt with: its refusal is told, or else it is gone on with its mesh. Of a folder that isn't told there is no outcome.
+abbrev pub AfterMesh : Option Folder → List ℕ → (RawMesh → Outcome → Type 0) → Outcome → Type 0
+AfterMesh None file next o = ⊥
+AfterMesh (Some m) file next o =
+    ((why : MeshRefusal) × IsRefusedMesh m file why × (o ≡ refusal (status_of_mesh why) (mesh_refusal_text file why) (Some m)))
+    ⊎ ((mesh : RawMesh) × IsMeshFile m file mesh × next mesh o)
+
+-- A document is written to a file, unless that would have more than 2,147,483,647 bytes.
+abbrev pub IsOutcomeOfDocument : NcDoc → List ℕ → List ℕ → Option Folder → Outcome → Type 0
+IsOutcomeOfDocument doc text file m o =
+    ((2147483647 < length (file_of doc)) × (o ≡ refusal Limit (length_text file (length (file_of doc))) m))
+    ⊎ ((length (file_of doc) ≤ 2147483647) × (o ≡ written (record { name = file; bytes = file_of doc }) text m))
+
+-- The overlap of two meshes is written to a file, unless more than 8,388,608 pairs of faces meet.
+abbrev pub IsOutcomeOfPair : RawMesh → RawMesh → List ℕ → Option Folder → Outcome → Type 0
+IsOutcomeOfPair source target file m o =
+    ((n : ℕ) × IsPairCount source target n × (8388608 < n) × (o ≡ refusal Limit (too_many_pieces_text n) m))
+    ⊎ ((overlap : OverlapParts) × IsOverlapOf source target overlap × (length overlap.pieces ≤ 8388608) × IsOutcomeOfDocument (overlap_document overlap) (pieces_text (length overlap.pieces)) file m o)
 
 -- The words are out of the grammar, or name a command that the program doesn't have yet.
 abbrev pub is_usage : Option Chosen → Bool
 is_usage None = true
 is_usage (Some (Cs res file)) = false
+is_usage (Some (Rll lon lat file)) = false
+is_usage (Some (Ico res dual file)) = false
+is_usage (Some (Overlap a b out workers)) = false
 is_usage (Some c) = true
 
--- From this command and this folder the program comes to this.
+-- From this command and this folder the program comes to this: the first refusal that stands, else Done. Every cubed sphere is
+-- accepted, so that it isn't tested.
 abbrev pub IsOutcome : Option Chosen → Option Folder → Outcome → Type 0
 IsOutcome None m o = o ≡ refusal Usage (codes "usage") m
-IsOutcome (Some (Cs res file)) m o = o ≡ written (sphere_output res file) (sphere_text res) m
+IsOutcome (Some (Cs res file)) m o = o ≡ mesh_written (cubed_sphere res) file m
+IsOutcome (Some (Rll lon lat file)) m o = IsOutcomeOfMade (latitude_longitude lon lat) file m o
+IsOutcome (Some (Ico res dual file)) m o = (raw : RawMesh) × IsMade res dual raw × IsOutcomeOfMade raw file m o
+IsOutcome (Some (Overlap a b out workers)) m o = AfterMesh m a (λ source. AfterMesh m b (λ target. IsOutcomeOfPair source target out m)) o
 IsOutcome (Some c) m o = o ≡ refusal Usage (codes "usage") m
 
--- there is an outcome with this, and no other outcome
+-- There is an outcome with this, and no other outcome. Of a command with input files it is said only where the folder is told.
 abbrev pub TheOutcome : Option Chosen → Option Folder → (Outcome → Type 0) → Type 0
-TheOutcome chosen m P = (o : Outcome) × IsOutcome chosen m o × ((p : Outcome) → IsOutcome chosen m p → p ≡ o) × P o
+TheOutcome chosen m P = AreTold (inputs_of chosen) m → (o : Outcome) × IsOutcome chosen m o × ((p : Outcome) → IsOutcome chosen m p → p ≡ o) × P o

@@ -2,8 +2,8 @@
 ghost use Rattle.std.specs.Prelude.{◌≡◌, ◌≢◌, ◌⊎◌, codes};
 ghost use Rattle.remap_io.specs.Causes.{Rose};
 ghost use Rattle.tempest_top.specs.Lines.{line_of, GainsLine};
-ghost use Rattle.tempest_top.specs.Outcome.{Outcome, Output, written};
-ghost use Rattle.tempest_top.specs.Promises.{Keeps};
+ghost use Rattle.tempest_top.specs.Outcome.{written};
+ghost use Rattle.tempest_top.specs.Ends.{Ends};
 
 use crate::Status;
 use crate::lines::put_line;
@@ -18,8 +18,8 @@ pub fn write_then_text<F: Files, O: Sink, E: Sink>(
     bytes: &[u8],
     text: &[u8],
 ) -> Status
-    ensures kept { Keeps (written (record { name = name.now; bytes = bytes.now }) text.now (F.folder files.old)) (F.folder files.old) (F.folder files.new)
-        (Rose (F.faults files.old) (F.faults files.new)) (Rose (F.write_faults files.old) (F.write_faults files.new)) (Rose (O.faults out.old) (O.faults out.new))
+    ensures ends { Ends (written (record { name = name.now; bytes = bytes.now }) text.now (F.folder files.old)) (F.folder files.old) (F.folder files.new)
+        (Rose (F.write_faults files.old) (F.write_faults files.new)) (Rose (O.faults out.old) (O.faults out.new))
         (O.contents out.old) (O.contents out.new) (E.contents err.old) (E.contents err.new)
         (Rose (E.faults err.old) (E.faults err.new) ⊎ Rose (E.refusals err.old) (E.refusals err.new)) result }
     ensures no_line { result ≡ Status.Done → err.new ≡ err.old }

@@ -1,49 +1,44 @@
 // The commands that make a mesh.
-ghost use Rattle.std.specs.Prelude.{◌≡◌, ◌≢◌, ◌≤◌, ◌⊎◌, IfOk, Some, length, string_bytes};
+ghost use Rattle.std.specs.Prelude.{◌≡◌, ◌≢◌, ◌≤◌, ◌⊎◌, All, IfOk, Some, length, string_bytes};
+ghost use Rattle.vec_exact.specs.Counts.{AreAllowedCounts};
 ghost use Rattle.remap_io.specs.Causes.{Rose};
 ghost use Rattle.nc_write.specs.File.{file_of};
 ghost use Rattle.nc_write.specs.Form.{IsWellFormed};
+ghost use Rattle.mesh_check.specs.Mesh.{IsAcceptedMesh};
+ghost use Rattle.mesh_check.specs.FirstFault.{HasFaceSize};
 ghost use Rattle.gen_cs.specs.CubedSphere.{cubed_sphere};
 ghost use Rattle.exodus_mesh.specs.MeshDocument.{mesh_document};
-ghost use Rattle.command_line.specs.declared.choices.Chosen.TheVariants.{Cs};
+ghost use Rattle.command_line.specs.declared.choices.Chosen.TheVariants.{Cs, Rll, Ico};
 ghost use Rattle.tempest_top.specs.Lines.{mesh_text};
-ghost use Rattle.tempest_top.specs.Outcome.{TheOutcome, sphere_output, sphere_text};
+ghost use Rattle.tempest_top.specs.Outcome.{mesh_output, mesh_written};
+ghost use Rattle.tempest_top.specs.Ends.{Ends};
 ghost use Rattle.tempest_top.specs.Promises.{Keeps};
 
 use crate::Status;
+use crate::faults::refuse_made;
 use crate::finish::{refuse_memory, write_then_text};
 use command_line::Text;
 use exodus_mesh::mesh_doc;
+use mesh_check::Mesh;
 use nc_write::{EncFault, NcDoc, encode};
 use remap_io::{Files, Sink};
 use std::alloc::Global;
-use vec_exact::NoMemory;
+use vec_exact::{NoMemory, RawMesh};
 
-// The document of the cubed sphere and the text that tells its size. The mesh itself is let go here.
-fn sphere_document(alloc: Global, n: u32) -> Result<(NcDoc, String), NoMemory>
-    requires least { 1 ≤ n }
-    requires greatest { n ≤ 400 }
-    ensures document { IfOk result (λ p. p.0 ≡ mesh_document (cubed_sphere n)) }
-    ensures text { IfOk result (λ p. string_bytes p.1 ≡ mesh_text (cubed_sphere n)) }
-    ensures well_formed { IfOk result (λ p. IsWellFormed p.0) }
-    ensures short { IfOk result (λ p. length (file_of p.0) ≤ 2147483647) }
+// The bytes of the file of a mesh, and the text that tells its size.
+#[tactic(auto, using(crate::proofs::AcceptedMesh::none_empty, crate::proofs::AcceptedMesh::narrow, crate::proofs::AcceptedMesh::short_mesh_file))]
+fn mesh_file(alloc: Global, raw: &RawMesh) -> Result<(Vec<u8>, String), NoMemory>
+    requires nodes { 1 ≤ length raw.now.nodes }
+    requires faces { 1 ≤ length raw.now.faces }
+    requires counts { AreAllowedCounts (length raw.now.nodes) (length raw.now.faces) }
+    requires sizes { All HasFaceSize raw.now.faces }
+    ensures bytes { IfOk result (λ p. p.0.items ≡ file_of (mesh_document raw.now)) }
+    ensures text { IfOk result (λ p. string_bytes p.1 ≡ mesh_text raw.now) }
 {
-    let raw = gen_cs::make(alloc, n)?;
     let faces = raw.faces.items.len();
     let nodes = raw.nodes.items.len();
     let text = format!(in alloc; "faces {faces} nodes {nodes}\n")?;
-    let doc = mesh_doc(alloc, &raw)?;
-    Ok((doc, text))
-}
-
-// The bytes of the file of the cubed sphere, and the text.
-fn sphere_file(alloc: Global, n: u32) -> Result<(Vec<u8>, String), NoMemory>
-    requires least { 1 ≤ n }
-    requires greatest { n ≤ 400 }
-    ensures bytes { IfOk result (λ p. p.0.items ≡ file_of (mesh_document (cubed_sphere n))) }
-    ensures text { IfOk result (λ p. string_bytes p.1 ≡ mesh_text (cubed_sphere n)) }
-{
-    let (doc, text) = sphere_document(alloc, n)?;
+    let doc = mesh_doc(alloc, raw)?;
     match encode(alloc, &doc) {
         Ok(bytes) => Ok((bytes, text)),
         Err(EncFault::NoMemory) => Err(NoMemory),
@@ -51,8 +46,55 @@ fn sphere_file(alloc: Global, n: u32) -> Result<(Vec<u8>, String), NoMemory>
     }
 }
 
+// The same of the cubed sphere. The mesh itself is let go here.
+fn sphere_file(alloc: Global, n: u32) -> Result<(Vec<u8>, String), NoMemory>
+    requires least { 1 ≤ n }
+    requires greatest { n ≤ 400 }
+    ensures bytes { IfOk result (λ p. p.0.items ≡ file_of (mesh_document (cubed_sphere n))) }
+    ensures text { IfOk result (λ p. string_bytes p.1 ≡ mesh_text (cubed_sphere n)) }
+{
+    let raw = gen_cs::make(alloc, n)?;
+    mesh_file(alloc, &raw)
+}
+
+// The same of an accepted mesh.
+#[tactic(auto, using(crate::proofs::AcceptedMesh::some_node, crate::proofs::AcceptedMesh::face_sizes))]
+fn accepted_file(alloc: Global, mesh: &Mesh) -> Result<(Vec<u8>, String), NoMemory>
+    requires { IsAcceptedMesh mesh.now }
+    ensures bytes { IfOk result (λ p. p.0.items ≡ file_of (mesh_document mesh.now)) }
+    ensures text { IfOk result (λ p. string_bytes p.1 ≡ mesh_text mesh.now) }
+{
+    let raw = mesh_check::raw(alloc, mesh)?;
+    mesh_file(alloc, &raw)
+}
+
+// Writes an accepted mesh to `file`, and puts its size.
+#[tactic(auto, unfolding(crate::specs::Outcome::mesh_output))]
+fn write_mesh<F: Files, O: Sink, E: Sink>(
+    alloc: Global,
+    mesh: &Mesh,
+    file: &Text,
+    files: &mut F,
+    out: &mut O,
+    err: &mut E,
+) -> Status
+    requires { IsAcceptedMesh mesh.now }
+    ensures ends { Ends (mesh_written mesh.now file.now (F.folder files.old)) (F.folder files.old) (F.folder files.new)
+        (Rose (F.write_faults files.old) (F.write_faults files.new)) (Rose (O.faults out.old) (O.faults out.new))
+        (O.contents out.old) (O.contents out.new) (E.contents err.old) (E.contents err.new)
+        (Rose (E.faults err.old) (E.faults err.new) ⊎ Rose (E.refusals err.old) (E.refusals err.new)) result }
+    ensures no_line { result ≡ Status.Done → err.new ≡ err.old }
+    ensures no_reads { F.taken files.new ≡ F.taken files.old }
+    ensures only { (result ≡ Status.Done) ⊎ ((result ≡ Status.WriteFault) ⊎ (result ≡ Status.NoMemory)) }
+{
+    let Ok((bytes, text)) = accepted_file(alloc, mesh) else {
+        return refuse_memory(err);
+    };
+    write_then_text(files, out, err, file.text.as_str(), &bytes, text.as_bytes())
+}
+
 /// `GenerateCSMesh`: writes the cubed sphere of resolution `res` to `file`, and puts its size.
-#[tactic(auto, unfolding(crate::specs::Outcome::sphere_output, crate::specs::Outcome::sphere_text))]
+#[tactic(auto, unfolding(crate::specs::Outcome::mesh_output))]
 pub fn generate_cs<F: Files, O: Sink, E: Sink>(
     alloc: Global,
     res: u32,
@@ -63,10 +105,10 @@ pub fn generate_cs<F: Files, O: Sink, E: Sink>(
 ) -> Status
     requires least { 1 ≤ res }
     requires greatest { res ≤ 400 }
-    ensures kept { TheOutcome (Some (Cs res file.now)) (F.folder files.old) (λ o. Keeps o (F.folder files.old) (F.folder files.new)
-        (Rose (F.faults files.old) (F.faults files.new)) (Rose (F.write_faults files.old) (F.write_faults files.new)) (Rose (O.faults out.old) (O.faults out.new))
+    ensures kept { Keeps (Some (Cs res file.now)) (F.folder files.old) (F.folder files.new)
+        (Rose (F.misses files.old) (F.misses files.new)) (Rose (F.faults files.old) (F.faults files.new)) (Rose (F.write_faults files.old) (F.write_faults files.new)) (Rose (O.faults out.old) (O.faults out.new))
         (O.contents out.old) (O.contents out.new) (E.contents err.old) (E.contents err.new)
-        (Rose (E.faults err.old) (E.faults err.new) ⊎ Rose (E.refusals err.old) (E.refusals err.new)) result) }
+        (Rose (E.faults err.old) (E.faults err.new) ⊎ Rose (E.refusals err.old) (E.refusals err.new)) result }
     ensures no_line { result ≡ Status.Done → err.new ≡ err.old }
     ensures no_reads { F.taken files.new ≡ F.taken files.old }
     ensures only { (result ≡ Status.Done) ⊎ ((result ≡ Status.WriteFault) ⊎ (result ≡ Status.NoMemory)) }
@@ -75,4 +117,58 @@ pub fn generate_cs<F: Files, O: Sink, E: Sink>(
         return refuse_memory(err);
     };
     write_then_text(files, out, err, file.text.as_str(), &bytes, text.as_bytes())
+}
+
+/// `GenerateRLLMesh`: writes the latitude-longitude mesh of `lon` by `lat` to `file`, and puts its
+/// size, or refuses its first fault.
+pub fn generate_rll<F: Files, O: Sink, E: Sink>(
+    alloc: Global,
+    lon: u32,
+    lat: u32,
+    file: &Text,
+    files: &mut F,
+    out: &mut O,
+    err: &mut E,
+) -> Status
+    requires lon { (3 ≤ lon) × (lon ≤ 720) }
+    requires lat { (2 ≤ lat) × (lat ≤ 360) }
+    ensures kept { Keeps (Some (Rll lon lat file.now)) (F.folder files.old) (F.folder files.new)
+        (Rose (F.misses files.old) (F.misses files.new)) (Rose (F.faults files.old) (F.faults files.new)) (Rose (F.write_faults files.old) (F.write_faults files.new)) (Rose (O.faults out.old) (O.faults out.new))
+        (O.contents out.old) (O.contents out.new) (E.contents err.old) (E.contents err.new)
+        (Rose (E.faults err.old) (E.faults err.new) ⊎ Rose (E.refusals err.old) (E.refusals err.new)) result }
+    ensures no_line { result ≡ Status.Done → err.new ≡ err.old }
+    ensures no_reads { F.taken files.new ≡ F.taken files.old }
+    ensures only { (result ≡ Status.Done) ⊎ ((result ≡ Status.Mesh) ⊎ ((result ≡ Status.WriteFault) ⊎ (result ≡ Status.NoMemory))) }
+{
+    match gen_rll::make(alloc, lon, lat) {
+        Ok(mesh) => write_mesh(alloc, &mesh, file, files, out, err),
+        Err(fault) => refuse_made(err, fault),
+    }
+}
+
+/// `GenerateICOMesh`: writes the icosahedral mesh of resolution `res`, or with `dual` its dual, to
+/// `file`, and puts its size, or refuses its first fault.
+pub fn generate_ico<F: Files, O: Sink, E: Sink>(
+    alloc: Global,
+    res: u32,
+    dual: bool,
+    file: &Text,
+    files: &mut F,
+    out: &mut O,
+    err: &mut E,
+) -> Status
+    requires least { 1 ≤ res }
+    requires greatest { res ≤ 200 }
+    ensures kept { Keeps (Some (Ico res dual file.now)) (F.folder files.old) (F.folder files.new)
+        (Rose (F.misses files.old) (F.misses files.new)) (Rose (F.faults files.old) (F.faults files.new)) (Rose (F.write_faults files.old) (F.write_faults files.new)) (Rose (O.faults out.old) (O.faults out.new))
+        (O.contents out.old) (O.contents out.new) (E.contents err.old) (E.contents err.new)
+        (Rose (E.faults err.old) (E.faults err.new) ⊎ Rose (E.refusals err.old) (E.refusals err.new)) result }
+    ensures no_line { result ≡ Status.Done → err.new ≡ err.old }
+    ensures no_reads { F.taken files.new ≡ F.taken files.old }
+    ensures only { (result ≡ Status.Done) ⊎ ((result ≡ Status.Mesh) ⊎ ((result ≡ Status.WriteFault) ⊎ (result ≡ Status.NoMemory))) }
+{
+    match gen_ico::make(alloc, res, dual) {
+        Ok(mesh) => write_mesh(alloc, &mesh, file, files, out, err),
+        Err(fault) => refuse_made(err, fault),
+    }
 }

@@ -1,10 +1,12 @@
 //! Everything that the program does: from its words to its files, its text and its status.
 #![tactic(auto)]
 
+mod faults;
 mod finish;
 mod generate;
 mod laws;
 mod lines;
+mod pairs;
 mod status;
 mod top;
 

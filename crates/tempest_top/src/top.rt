@@ -1,39 +1,24 @@
 // The top call.
-ghost use Rattle.std.specs.Prelude.{◌≡◌, ◌≢◌, ◌⊎◌, Some, true, MatchOption};
+ghost use Rattle.std.specs.Prelude.{◌≡◌, ◌≢◌, ◌≤◌, ◌+◌, ◌⊎◌, [], IfSome, Some, true};
 ghost use Rattle.remap_io.specs.Causes.{Rose};
 ghost use Rattle.remap_io.specs.Held.{Gains};
 ghost use Rattle.command_line.specs.Words.{options_of, texts, HasLimits};
-ghost use Rattle.command_line.specs.declared.choices.Chosen.TheVariants.{Cs};
+ghost use Rattle.tempest_top.specs.Inputs.{inputs_of, reading_cost};
 ghost use Rattle.tempest_top.specs.Outcome.{TheOutcome, is_usage};
 ghost use Rattle.tempest_top.specs.Promises.{IsAnswer, FolderAfterRefusal, TextAfterRefusal, PutsLine, Keeps};
 
 use crate::Status;
 use crate::finish::{refuse_memory, refuse_usage};
-use crate::generate::generate_cs;
-use command_line::{Chosen, OptFault, Text, options};
+use crate::generate::{generate_cs, generate_ico, generate_rll};
+use crate::pairs::generate_overlap;
+use command_line::{Chosen, OptFault, options};
 use remap_io::{Files, Sink};
 use std::alloc::Global;
 use std::thread::Threads;
 
-// The cubed sphere that is asked for, or nothing where it is another command.
-fn sphere_asked(chosen: Chosen) -> Option<(u32, Text)>
-    ensures { MatchOption result (is_usage (Some chosen) ≡ true) (λ p. chosen ≡ Cs p.0 p.1) }
-{
-    match chosen {
-        Chosen::Cs { res, file } => Some((res, file)),
-        Chosen::Rll { .. } => None,
-        Chosen::Ico { .. } => None,
-        Chosen::Overlap { .. } => None,
-        Chosen::OfflineMap { .. } => None,
-        Chosen::Apply { .. } => None,
-        Chosen::SelfRun { .. } => None,
-        Chosen::Coverage { .. } => None,
-        Chosen::Check { .. } => None,
-    }
-}
-
 // Runs a command. One that the program doesn't have yet is refused.
-fn run_chosen<F: Files, O: Sink, E: Sink>(
+fn run_chosen<R: Threads, F: Files, O: Sink, E: Sink>(
+    rt: &R,
     alloc: Global,
     chosen: Chosen,
     files: &mut F,
@@ -41,42 +26,59 @@ fn run_chosen<F: Files, O: Sink, E: Sink>(
     err: &mut E,
 ) -> Status
     requires { HasLimits chosen }
-    ensures kept { TheOutcome (Some chosen) (F.folder files.old) (λ o. Keeps o (F.folder files.old) (F.folder files.new)
-        (Rose (F.faults files.old) (F.faults files.new)) (Rose (F.write_faults files.old) (F.write_faults files.new)) (Rose (O.faults out.old) (O.faults out.new))
+    ensures kept { Keeps (Some chosen) (F.folder files.old) (F.folder files.new)
+        (Rose (F.misses files.old) (F.misses files.new)) (Rose (F.faults files.old) (F.faults files.new)) (Rose (F.write_faults files.old) (F.write_faults files.new)) (Rose (O.faults out.old) (O.faults out.new))
         (O.contents out.old) (O.contents out.new) (E.contents err.old) (E.contents err.new)
-        (Rose (E.faults err.old) (E.faults err.new) ⊎ Rose (E.refusals err.old) (E.refusals err.new)) result) }
+        (Rose (E.faults err.old) (E.faults err.new) ⊎ Rose (E.refusals err.old) (E.refusals err.new)) result }
     ensures no_line { result ≡ Status.Done → err.new ≡ err.old }
-    ensures no_reads { F.taken files.new ≡ F.taken files.old }
     ensures usage { result ≡ Status.Usage → is_usage (Some chosen) ≡ true }
     ensures usage_only { is_usage (Some chosen) ≡ true → result ≡ Status.Usage }
-    ensures only { (result ≢ Status.NoFile) × (result ≢ Status.ReadFault) }
+    ensures no_reads { inputs_of (Some chosen) ≡ [] → (result ≢ Status.NoFile) × (result ≢ Status.ReadFault) }
+    ensures bytes_read { result ≡ Status.Done → IfSome (F.folder files.old) (λ m. F.taken files.new ≤ F.taken files.old + reading_cost m (inputs_of (Some chosen))) }
+    ensures no_bytes { inputs_of (Some chosen) ≡ [] → F.taken files.new ≡ F.taken files.old }
 {
-    match sphere_asked(chosen) {
-        Some((res, file)) => generate_cs(alloc, res, &file, files, out, err),
-        None => refuse_usage(err),
+    match chosen {
+        Chosen::Cs { res, file } => generate_cs(alloc, res, &file, files, out, err),
+        Chosen::Rll { lon, lat, file } => generate_rll(alloc, lon, lat, &file, files, out, err),
+        Chosen::Ico { res, dual, file } => {
+            generate_ico(alloc, res, dual, &file, files, out, err)
+        }
+        Chosen::Overlap {
+            a,
+            b,
+            out: file,
+            workers,
+        } => { generate_overlap(rt, alloc, &a, &b, &file, workers, files, out, err) }
+        Chosen::OfflineMap { .. } => refuse_usage(err),
+        Chosen::Apply { .. } => refuse_usage(err),
+        Chosen::SelfRun { .. } => refuse_usage(err),
+        Chosen::Coverage { .. } => refuse_usage(err),
+        Chosen::Check { .. } => refuse_usage(err),
     }
 }
 
 // Reads the words, and runs the command that they ask for.
-fn run_words<F: Files, O: Sink, E: Sink>(
+fn run_words<R: Threads, F: Files, O: Sink, E: Sink>(
+    rt: &R,
     alloc: Global,
     words: &[String],
     files: &mut F,
     out: &mut O,
     err: &mut E,
 ) -> Status
-    ensures kept { TheOutcome (options_of (texts words.now)) (F.folder files.old) (λ o. Keeps o (F.folder files.old) (F.folder files.new)
-        (Rose (F.faults files.old) (F.faults files.new)) (Rose (F.write_faults files.old) (F.write_faults files.new)) (Rose (O.faults out.old) (O.faults out.new))
+    ensures kept { Keeps (options_of (texts words.now)) (F.folder files.old) (F.folder files.new)
+        (Rose (F.misses files.old) (F.misses files.new)) (Rose (F.faults files.old) (F.faults files.new)) (Rose (F.write_faults files.old) (F.write_faults files.new)) (Rose (O.faults out.old) (O.faults out.new))
         (O.contents out.old) (O.contents out.new) (E.contents err.old) (E.contents err.new)
-        (Rose (E.faults err.old) (E.faults err.new) ⊎ Rose (E.refusals err.old) (E.refusals err.new)) result) }
+        (Rose (E.faults err.old) (E.faults err.new) ⊎ Rose (E.refusals err.old) (E.refusals err.new)) result }
     ensures no_line { result ≡ Status.Done → err.new ≡ err.old }
-    ensures no_reads { F.taken files.new ≡ F.taken files.old }
     ensures usage { result ≡ Status.Usage → is_usage (options_of (texts words.now)) ≡ true }
     ensures usage_only { is_usage (options_of (texts words.now)) ≡ true → (result ≡ Status.Usage) ⊎ (result ≡ Status.NoMemory) }
-    ensures only { (result ≢ Status.NoFile) × (result ≢ Status.ReadFault) }
+    ensures no_reads { inputs_of (options_of (texts words.now)) ≡ [] → (result ≢ Status.NoFile) × (result ≢ Status.ReadFault) }
+    ensures bytes_read { result ≡ Status.Done → IfSome (F.folder files.old) (λ m. F.taken files.new ≤ F.taken files.old + reading_cost m (inputs_of (options_of (texts words.now)))) }
+    ensures no_bytes { inputs_of (options_of (texts words.now)) ≡ [] → F.taken files.new ≡ F.taken files.old }
 {
     match options(alloc, words) {
-        Ok(chosen) => run_chosen(alloc, chosen, files, out, err),
+        Ok(chosen) => run_chosen(rt, alloc, chosen, files, out, err),
         Err(OptFault::Usage) => refuse_usage(err),
         Err(OptFault::NoMemory) => refuse_memory(err),
     }
@@ -87,8 +89,9 @@ fn run_words<F: Files, O: Sink, E: Sink>(
 /// to `err`, and answers the status.
 ///
 /// The promises are said against the outcome of the words over the folder at the entry, of which
-/// there is one. A count rose where it is greater at the exit than at the entry, or stands at its
-/// last value, 2^64 - 1.
+/// there is at most one. A clause that names a part of it says that there is an outcome with this
+/// part; of a command with input files it says so where the folder is told. A count rose where it is
+/// greater at the exit than at the entry, or stands at its last value, 2^64 - 1.
 pub fn run<F: Files, O: Sink, E: Sink>(
     rt: &impl Threads,
     alloc: Global,
@@ -98,8 +101,8 @@ pub fn run<F: Files, O: Sink, E: Sink>(
     err: &mut E,
 ) -> Status
     // The status promise: the status is that of the outcome, or a counted fault, or want of memory.
-    ensures status { TheOutcome (options_of (texts words.now)) (F.folder files.old) (λ o. IsAnswer o (Rose (F.faults files.old) (F.faults files.new))
-        (Rose (F.write_faults files.old) (F.write_faults files.new) ⊎ Rose (O.faults out.old) (O.faults out.new)) result) }
+    ensures status { IsAnswer (options_of (texts words.now)) (F.folder files.old) (Rose (F.faults files.old) (F.faults files.new))
+        (Rose (F.write_faults files.old) (F.write_faults files.new) ⊎ Rose (O.faults out.old) (O.faults out.new)) result }
 
     // The success promise: at Done the folder and the text are those of the outcome, and `err` is as it was.
     ensures done_folder { result ≡ Status.Done → TheOutcome (options_of (texts words.now)) (F.folder files.old) (λ o. F.folder files.new ≡ o.folder) }
@@ -107,25 +110,30 @@ pub fn run<F: Files, O: Sink, E: Sink>(
     ensures done_line { result ≡ Status.Done → err.new ≡ err.old }
 
     // The refusal promise: what a refusal leaves in the folder and in `out`.
-    ensures refused_folder { result ≢ Status.Done → TheOutcome (options_of (texts words.now)) (F.folder files.old) (λ o. FolderAfterRefusal o (F.folder files.old) (F.folder files.new) result) }
-    ensures refused_text { result ≢ Status.Done → TheOutcome (options_of (texts words.now)) (F.folder files.old) (λ o. TextAfterRefusal o (O.contents out.old) (O.contents out.new) result) }
-    ensures text_after_file { TheOutcome (options_of (texts words.now)) (F.folder files.old) (λ o. (O.contents out.new ≡ O.contents out.old) ⊎ (F.folder files.new ≡ o.folder)) }
-    ensures fault_after_file { result ≡ Status.WriteFault → TheOutcome (options_of (texts words.now)) (F.folder files.old)
-        (λ o. Rose (F.write_faults files.old) (F.write_faults files.new) ⊎ (F.folder files.new ≡ o.folder)) }
+    ensures refused_folder { result ≢ Status.Done → FolderAfterRefusal (options_of (texts words.now)) (F.folder files.old) (F.folder files.new) result }
+    ensures refused_text { result ≢ Status.Done → TextAfterRefusal (options_of (texts words.now)) (F.folder files.old) (O.contents out.old) (O.contents out.new) result }
+    ensures text_after_file { (O.contents out.new ≡ O.contents out.old) ⊎ TheOutcome (options_of (texts words.now)) (F.folder files.old) (λ o. F.folder files.new ≡ o.folder) }
+    ensures fault_after_file { result ≡ Status.WriteFault → Rose (F.write_faults files.old) (F.write_faults files.new)
+        ⊎ TheOutcome (options_of (texts words.now)) (F.folder files.old) (λ o. F.folder files.new ≡ o.folder) }
 
     // The message promise: a refusal puts its line, or a prefix of it where `err` counts a refused put.
-    ensures refused_line { result ≢ Status.Done → TheOutcome (options_of (texts words.now)) (F.folder files.old) (λ o. PutsLine o (E.contents err.old) (E.contents err.new)
+    ensures refused_line { result ≢ Status.Done → PutsLine (options_of (texts words.now)) (F.folder files.old) (E.contents err.old) (E.contents err.new)
         (Rose (F.write_faults files.old) (F.write_faults files.new)) (Rose (O.faults out.old) (O.faults out.new))
-        (Rose (E.faults err.old) (E.faults err.new) ⊎ Rose (E.refusals err.old) (E.refusals err.new)) result) }
+        (Rose (E.faults err.old) (E.faults err.new) ⊎ Rose (E.refusals err.old) (E.refusals err.new)) result }
 
     // The cause promise: Usage is answered exactly for words that ask for nothing that the program
-    // has, and nothing is read.
+    // has; NoFile only where the count of misses rose. A command without an input file answers
+    // neither NoFile nor ReadFault. What stands in the line of a ReadFault and of a WriteFault is
+    // said in the message promise.
     ensures usage { result ≡ Status.Usage → is_usage (options_of (texts words.now)) ≡ true }
     ensures usage_only { is_usage (options_of (texts words.now)) ≡ true → (result ≡ Status.Usage) ⊎ (result ≡ Status.NoMemory) }
-    ensures no_reads { (result ≢ Status.NoFile) × (result ≢ Status.ReadFault) }
+    ensures no_file { result ≡ Status.NoFile → Rose (F.misses files.old) (F.misses files.new) }
+    ensures no_reads { inputs_of (options_of (texts words.now)) ≡ [] → (result ≢ Status.NoFile) × (result ≢ Status.ReadFault) }
 
-    // The bytes-read promise: no command has an input file so far, so no byte is asked for.
-    ensures bytes_read { F.taken files.new ≡ F.taken files.old }
+    // The bytes-read promise: at Done no more bytes were asked for than the headers and the needed
+    // variables of the input files have; and none without an input file.
+    ensures bytes_read { result ≡ Status.Done → IfSome (F.folder files.old) (λ m. F.taken files.new ≤ F.taken files.old + reading_cost m (inputs_of (options_of (texts words.now)))) }
+    ensures no_bytes { inputs_of (options_of (texts words.now)) ≡ [] → F.taken files.new ≡ F.taken files.old }
 {
-    run_words(alloc, words, files, out, err)
+    run_words(rt, alloc, words, files, out, err)
 }

@@ -1,4 +1,5 @@
-use Rattle.remap_files.specs.OverlapDocument.{triple_of, IsCorner}
+use Rattle.clip.specs.Columns.{triple_of}
+use Rattle.remap_files.specs.OverlapDocument.{IsCorner}
 use Rattle.remap_files.proofs.Taken.{all_more, flat_step}
 use Rattle.remap_files.proofs.columns.put_corners.Goals as goal
 

@@ -1,6 +1,7 @@
 use Rattle.std.proofs.Common.{◌≡◌, ◌++◌, take, All}
 use Rattle.std.specs.List.{flat_map}
-use Rattle.remap_files.specs.OverlapDocument.{triple_of, IsCorner}
+use Rattle.clip.specs.Columns.{triple_of}
+use Rattle.remap_files.specs.OverlapDocument.{IsCorner}
 use Rattle.remap_files.proofs.columns.put_corners.Given as goal
 
 abbrev pub invariant-loop-corner : goal.invariant-loop-corner

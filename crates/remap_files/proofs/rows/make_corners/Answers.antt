@@ -1,7 +1,7 @@
 use Rattle.std.proofs.Common.{◌≡◌, ◌≤◌, ◌∙◌, ◌++◌, ◌∷◌, [], ◌-◌, ◌+◌, ap, sym, length, arith, append_assoc}
 use Rattle.std.proofs.lemmas.Int.{to_z-of_z}
 use Rattle.exodus_mesh.specs.MeshValues.{rows_of}
-use Rattle.remap_files.specs.OverlapDocument.{triple_of}
+use Rattle.clip.specs.Columns.{triple_of}
 use Rattle.remap_files.proofs.Triples.{next_triple}
 use Rattle.remap_files.proofs.rows.make_corners.Goals as goal
 

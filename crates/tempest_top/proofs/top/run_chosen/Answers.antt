@@ -1,9 +1,18 @@
-use Rattle.std.proofs.Common.{rules, ◌≡◌, Some, true}
-use Rattle.tempest_top.specs.Outcome.{is_usage}
-use Rattle.tempest_top.proofs.Outcomes.{outcome_usage}
+use Rattle.std.proofs.Common.{rules, Some}
+use Rattle.tempest_top.proofs.Keeping.{keeps_usage}
 use Rattle.tempest_top.proofs.top.run_chosen.Goals as goal
 
-pub returns-in-None-clause-kept : goal.returns-in-None-clause-kept
-returns-in-None-clause-kept g c =
-    let asked : is_usage (Some c.args.chosen) ≡ true = search rules in
-    outcome_usage (Some c.args.chosen) _ _ _ _ _ _ _ _ _ asked c.refuse_usage.ensures.status c.refuse_usage.ensures.line
+pub returns-in-OfflineMap-clause-kept : goal.returns-in-OfflineMap-clause-kept
+returns-in-OfflineMap-clause-kept g c = keeps_usage (Some c.args.chosen) _ _ _ _ _ _ _ _ _ _ (search rules) c.refuse_usage.ensures.status c.refuse_usage.ensures.line
+
+pub returns-in-Apply-clause-kept : goal.returns-in-Apply-clause-kept
+returns-in-Apply-clause-kept g c = keeps_usage (Some c.args.chosen) _ _ _ _ _ _ _ _ _ _ (search rules) c.refuse_usage-in-Apply.ensures.status c.refuse_usage-in-Apply.ensures.line
+
+pub returns-in-SelfRun-clause-kept : goal.returns-in-SelfRun-clause-kept
+returns-in-SelfRun-clause-kept g c = keeps_usage (Some c.args.chosen) _ _ _ _ _ _ _ _ _ _ (search rules) c.refuse_usage-in-SelfRun.ensures.status c.refuse_usage-in-SelfRun.ensures.line
+
+pub returns-in-Coverage-clause-kept : goal.returns-in-Coverage-clause-kept
+returns-in-Coverage-clause-kept g c = keeps_usage (Some c.args.chosen) _ _ _ _ _ _ _ _ _ _ (search rules) c.refuse_usage-in-Coverage.ensures.status c.refuse_usage-in-Coverage.ensures.line
+
+pub returns-clause-kept : goal.returns-clause-kept
+returns-clause-kept g c = keeps_usage (Some c.args.chosen) _ _ _ _ _ _ _ _ _ _ (search rules) c.refuse_usage-in-Check.ensures.status c.refuse_usage-in-Check.ensures.line

@@ -1,0 +1,4 @@
+pub mod Claimed
+pub mod OneWord
+pub mod Seen
+pub mod Views

@@ -1,0 +1,10 @@
+//! Block numbers that workers draw from one shared word, each number once.
+#![tactic(auto)]
+
+mod rule;
+#[cfg(test)]
+mod tests;
+mod tickets;
+
+pub use rule::{Kind, View};
+pub use tickets::{ClaimWord, Ticket, claims, draw, is_done, last_word, rejoin, split};

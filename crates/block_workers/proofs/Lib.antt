@@ -1,0 +1,2 @@
+mod JoinedShares
+mod Slots

@@ -1,0 +1,3 @@
+pub mod FinishedBlocks
+pub mod InPlace
+pub mod Shares

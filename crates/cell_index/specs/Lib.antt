@@ -1,0 +1,6 @@
+pub mod Box
+pub mod Candidate
+pub mod CandidateList
+pub mod Fineness
+pub mod IndexOf
+pub mod Kept

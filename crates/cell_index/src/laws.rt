@@ -1,0 +1,13 @@
+// What candidates are for.
+ghost use Rattle.cell_index.specs.Candidate.{LawMeetsIsCandidate};
+ghost use Rattle.cell_index.specs.IndexOf.{LawSharersAreCandidates};
+
+/// Two accepted faces that meet are candidates, at any fineness.
+pub fn law_meets_is_candidate()
+    ensures { LawMeetsIsCandidate }
+{}
+
+/// In the index of a mesh, the faces that share a cell with a face's boxes are its candidates.
+pub fn law_sharers_are_candidates()
+    ensures { LawSharersAreCandidates }
+{}

@@ -1,0 +1,130 @@
+// Pieces as columns of numbers, as an overlap file has them.
+ghost use Rattle.std.specs.Prelude.{◌≡◌, ◌++◌, ◌∷◌, [], ℕ, List, OnOk, All, map, flat_map, pos, length};
+ghost use Rattle.clip.specs.declared.pieces.Piece.{Piece as OnePiece};
+ghost use Rattle.clip.specs.Overlaps.{IsRingNumber, HasSmallNumbers};
+ghost use Rattle.clip.specs.Columns.{AreColumnsOf, ring_numbers, triple_of, corner_numbers};
+
+use crate::lists::Ring;
+use crate::pieces::{Corners, Piece, Pieces};
+use std::alloc::Global;
+use vec_exact::NoMemory;
+
+/// A list of pieces, in whatever form it keeps them. Pieces join at its end.
+pub trait PieceList: Sized + Drop {
+    /// It holds these pieces, in this order, and no other.
+    ghost holds: { Self → List OnePiece → Type 0 };
+
+    /// The list without a piece.
+    fn none(alloc: Global) -> Self
+        ensures { holds result [] };
+
+    /// Puts a piece at the end. Its face numbers are below 2^31.
+    fn push(&mut self, piece: Piece) -> Result<(), NoMemory>
+        requires { HasSmallNumbers piece }
+        ensures { (pieces : List OnePiece) → holds self.old pieces → OnOk result (holds self.new (pieces ++ piece ∷ [])) };
+
+    /// Puts the pieces of another list at the end.
+    fn append(&mut self, other: Self) -> Result<(), NoMemory>
+        ensures { (pieces others : List OnePiece) → holds self.old pieces → holds other others
+            → OnOk result (holds self.new (pieces ++ others)) };
+}
+
+impl PieceList for Pieces {
+    ghost use Rattle.std.specs.Prelude.{◌≡◌, List};
+    ghost use Rattle.clip.specs.declared.pieces.Piece.{Piece as OnePiece};
+
+    ghost holds = { λ list pieces. list ≡ pieces };
+
+    fn none(alloc: Global) -> Self {
+        Pieces {
+            items: Vec::new(alloc),
+        }
+    }
+
+    fn push(&mut self, piece: Piece) -> Result<(), NoMemory> {
+        self.items.push(piece)?;
+        Ok(())
+    }
+
+    fn append(&mut self, other: Self) -> Result<(), NoMemory> {
+        let mut items = other.items;
+        self.items.append(&mut items)?;
+        Ok(())
+    }
+}
+
+/// The numbers of pieces in columns, each column in the order of the pieces.
+#[derive(Drop)]
+pub struct Columns {
+    /// The source face of each piece, from 1.
+    pub sources: Vec<i32>,
+    /// The target face of each piece, from 1.
+    pub targets: Vec<i32>,
+    /// The length of each ring, from 3 to 32.
+    pub ring_sizes: Vec<i8>,
+    /// The numbers of all rings, each from 1 to 32.
+    pub ring_planes: Vec<i8>,
+    /// The three components of each corner.
+    pub corners: Vec<i32>,
+}
+
+fn put_ring(numbers: &mut Vec<i8>, ring: &Ring) -> Result<(), NoMemory>
+    requires { All IsRingNumber ring.now.items }
+    ensures { OnOk result (numbers.new.items ≡ numbers.old.items ++ map (λ n. pos n) ring.now.items) }
+{
+    for number in ring.as_slice() {
+        numbers.push(*number as i8)?;
+    }
+    Ok(())
+}
+
+fn put_corner(numbers: &mut Vec<i32>, corner: &[i32; 3]) -> Result<(), NoMemory>
+    ensures { OnOk result (numbers.new.items ≡ numbers.old.items ++ triple_of corner.now) }
+{
+    numbers.push(corner[0])?;
+    numbers.push(corner[1])?;
+    numbers.push(corner[2])?;
+    Ok(())
+}
+
+fn put_corners(numbers: &mut Vec<i32>, corners: &Corners) -> Result<(), NoMemory>
+    ensures { OnOk result (numbers.new.items ≡ numbers.old.items ++ flat_map triple_of corners.now) }
+{
+    for corner in corners.items.as_slice() {
+        put_corner(numbers, corner)?;
+    }
+    Ok(())
+}
+
+impl PieceList for Columns {
+    ghost use Rattle.clip.specs.Columns.{AreColumnsOf};
+
+    ghost holds = { λ columns pieces. AreColumnsOf pieces columns };
+
+    fn none(alloc: Global) -> Self {
+        Columns {
+            sources: Vec::new(alloc),
+            targets: Vec::new(alloc),
+            ring_sizes: Vec::new(alloc),
+            ring_planes: Vec::new(alloc),
+            corners: Vec::new(alloc),
+        }
+    }
+
+    fn push(&mut self, piece: Piece) -> Result<(), NoMemory> {
+        self.sources.push(piece.a as i32)?;
+        self.targets.push(piece.b as i32)?;
+        self.ring_sizes.push(piece.ring.len() as i8)?;
+        put_ring(&mut self.ring_planes, &piece.ring)?;
+        put_corners(&mut self.corners, &piece.corners)
+    }
+
+    fn append(&mut self, other: Self) -> Result<(), NoMemory> {
+        self.sources.extend_from_slice(&other.sources)?;
+        self.targets.extend_from_slice(&other.targets)?;
+        self.ring_sizes.extend_from_slice(&other.ring_sizes)?;
+        self.ring_planes.extend_from_slice(&other.ring_planes)?;
+        self.corners.extend_from_slice(&other.corners)?;
+        Ok(())
+    }
+}

@@ -1,0 +1,3 @@
+pub mod MeshFile
+pub mod Places
+pub mod Refusals

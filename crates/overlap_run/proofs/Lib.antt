@@ -1,0 +1,11 @@
+mod Ascending
+pub mod Unique
+mod Exactly
+mod BlockSteps
+mod FaceSteps
+mod RunSteps
+mod WholeSteps
+mod RingCorners
+mod Targets
+mod ClipCounts
+mod NumberedBlocks

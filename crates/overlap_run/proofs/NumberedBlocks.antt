@@ -1,0 +1,99 @@
+-- Blocks of 64 source faces, one after another.
+use Rattle.std.proofs.Common.{◌≡◌, ℕ, suc, ◌+◌, ◌*◌, ◌<◌, ◌≤◌, ◌^◌, min, List, [], ◌∷◌, length, slice_index_or, ap, sym, ◌∙◌, subst, arith}
+use Rattle.std.specs.Int.{div_ceil}
+use Rattle.block_workers.specs.InPlace.{AllInPlace}
+use Rattle.vec_exact.specs.declared.RawMesh.{RawMesh}
+use Rattle.clip.specs.declared.pieces.Piece.{Piece}
+use Rattle.overlap_run.specs.declared.blocks.Block.{Block}
+use Rattle.overlap_run.specs.Pairs.{DoMeet}
+use Rattle.overlap_run.specs.Parts.{DoMeetWithin, IsBlockOf, IsNumberedBlock, TakesBlock, clip_count}
+use Rattle.overlap_run.proofs.BlockSteps.{block_none}
+use Rattle.overlap_run.proofs.RunSteps.{no_faces, run_more, whole_block}
+use Rattle.overlap_run.proofs.ClipCounts.{clip_count_none, clip_count_join, clip_count_grows, clip_count_fits}
+
+-- the last face of the first s blocks
+abbrev pub ends_at : RawMesh → ℕ → ℕ
+ends_at a s = min (length a.faces) (64 * s)
+
+-- the pairs that are clipped in the first s blocks
+abbrev pub clipped : RawMesh → RawMesh → ℕ → ℕ
+clipped a b s = clip_count a b 1 (ends_at a s)
+
+-- there is a face in block s
+pub has_face : (a : RawMesh) (s blocks : ℕ) → s < blocks → blocks ≡ div_ceil (length a.faces) 64 → 64 * s < length a.faces
+has_face a s blocks l e = omega (arith, l, e)
+
+pub ends_at_last : (a : RawMesh) (s blocks : ℕ) → blocks ≤ s → blocks ≡ div_ceil (length a.faces) 64 → ends_at a s ≡ length a.faces
+ends_at_last a s blocks l e = omega (arith, l, e)
+
+before : (a : RawMesh) (s : ℕ) → 64 * s < length a.faces → ends_at a s ≡ 64 * s
+before a s l = omega (arith, l)
+
+later : (a : RawMesh) (s : ℕ) → 64 * s < length a.faces → 64 * s ≤ ends_at a (s + 1)
+later a s l = omega (arith, l)
+
+ends_at_most : (a : RawMesh) (s : ℕ) → ends_at a s ≤ length a.faces
+ends_at_most a s = omega arith
+
+pub clipped_none : (a b : RawMesh) → clipped a b 0 ≡ 0
+clipped_none a b =
+    let none : ends_at a 0 ≡ 0 = omega arith in
+    ap (clip_count a b 1) none ∙ clip_count_none a b 1 0 (omega arith)
+
+pub clipped_more : (a b : RawMesh) (s : ℕ) → 64 * s < length a.faces → clipped a b (s + 1) ≡ clipped a b s + clip_count a b (64 * s + 1) (ends_at a (s + 1))
+clipped_more a b s l = omega (arith, ap (clip_count a b 1) (before a s l), clip_count_join a b 1 (64 * s) (ends_at a (s + 1)) (omega arith) (later a s l))
+
+-- no more than for all faces
+pub clipped_at_most : (a b : RawMesh) (s : ℕ) → clipped a b s ≤ clip_count a b 1 (length a.faces)
+clipped_at_most a b s = clip_count_grows a b 1 (ends_at a s) (length a.faces) (omega arith) (ends_at_most a s)
+
+pub clipped_fits : (a b : RawMesh) (s : ℕ) → length a.faces ≤ 1048576 → length b.faces ≤ 1048576 → clipped a b s ≤ 1099511627776
+clipped_fits a b s m n = clip_count_fits a b 1 (ends_at a s) (omega arith) (ends_at_most a s) m n
+
+module _ {C : Type 0} (Holds : C → List Piece → Type 0) (a b : RawMesh) where
+  pub blocks_none : (run : Block C) → run.count ≡ 0 → Holds run.pieces [] → IsBlockOf Holds a b (DoMeetWithin a b 1 (ends_at a 0)) run
+  blocks_none run e f = block_none Holds a b (DoMeetWithin a b 1 (ends_at a 0)) (no_faces a b 1 (ends_at a 0) (omega arith)) run e f
+
+  -- one block more
+  pub blocks_more : (s : ℕ) → 64 * s < length a.faces → (old more new : Block C) → IsBlockOf Holds a b (DoMeetWithin a b 1 (ends_at a s)) old → IsNumberedBlock Holds a b s more
+      → TakesBlock Holds old more new → IsBlockOf Holds a b (DoMeetWithin a b 1 (ends_at a (s + 1))) new
+  blocks_more s l old more new h k takes =
+      let next = subst (λ (n : ℕ). IsBlockOf Holds a b (DoMeetWithin a b (n + 1) (ends_at a (s + 1))) more) (sym (before a s l)) k.block_of in
+      run_more Holds a b (ends_at a s) (ends_at a (s + 1)) (omega (arith, before a s l, later a s l)) old more new h next takes
+
+  pub few_more : (s : ℕ) → 64 * s < length a.faces → (old more new : Block C) → old.count ≤ clipped a b s → IsNumberedBlock Holds a b s more → new.count ≡ old.count + more.count
+      → new.count ≤ clipped a b (s + 1)
+  few_more s l old more new h k e = omega (arith, h, k.few, e, clipped_more a b s l)
+
+  pub room_for : (s : ℕ) → 64 * s < length a.faces → (old more : Block C) → length a.faces ≤ 1048576 → length b.faces ≤ 1048576 → old.count ≤ clipped a b s → IsNumberedBlock Holds a b s more
+      → old.count + more.count < 2 ^ 64
+  room_for s l old more m n h k = omega (arith, h, k.few, clipped_more a b s l, clipped_fits a b (s + 1) m n)
+
+  -- all blocks
+  pub blocks_end : (s blocks : ℕ) → blocks ≤ s → blocks ≡ div_ceil (length a.faces) 64 → (run : Block C) → IsBlockOf Holds a b (DoMeetWithin a b 1 (ends_at a s)) run → IsBlockOf Holds a b (DoMeet a b) run
+  blocks_end s blocks l e run h = whole_block Holds a b run (subst (λ (n : ℕ). IsBlockOf Holds a b (DoMeetWithin a b 1 n) run) (ends_at_last a s blocks l e) h)
+
+-- the items from the first on, and from the second on
+pub first_in_place : {X : Type 0} (P : ℕ → X → Type 0) (s : ℕ) (left rest : List X) (x : X) → left ≡ x ∷ rest → AllInPlace (λ t. P (s + t)) left → P s x
+first_in_place P s left rest x e h =
+    let at_least : 0 < length left = omega (arith, ap length e) in
+    let here = h 0 x at_least in
+    let number : s + 0 ≡ s = omega arith in
+    subst (λ (n : ℕ). P n x) number (subst (P (s + 0)) (ap (λ (l : List _). slice_index_or l 0 x) e) here)
+
+pub rest_in_place : {X : Type 0} (P : ℕ → X → Type 0) (s : ℕ) (left rest : List X) (x : X) → left ≡ x ∷ rest → AllInPlace (λ t. P (s + t)) left → AllInPlace (λ t. P (s + 1 + t)) rest
+rest_in_place {X} P s left rest x e h t d l =
+    let within : suc t < length left = omega (arith, ap length e, l) in
+    let here : P (s + suc t) (slice_index_or left (suc t) d) = h (suc t) d within in
+    let number : s + suc t ≡ s + 1 + t = omega arith in
+    let item : slice_index_or left (suc t) d ≡ slice_index_or rest t d = ap (λ (l : List X). slice_index_or l (suc t) d) e in
+    subst (λ (n : ℕ). P n (slice_index_or rest t d)) number (subst (P (s + suc t)) item here)
+
+pub from_first : {X : Type 0} (P : ℕ → X → Type 0) (xs : List X) → AllInPlace P xs → AllInPlace (λ t. P (0 + t)) xs
+from_first P xs h t d l =
+    let number : t ≡ 0 + t = omega arith in
+    subst (λ (n : ℕ). P n (slice_index_or xs t d)) number (h t d l)
+
+-- where an item is left, not all were seen
+pub one_left : {X : Type 0} (s : ℕ) (left rest : List X) (x : X) (all : ℕ) → left ≡ x ∷ rest → s + length left ≡ all → s < all
+one_left s left rest x all e size = omega (arith, ap length e, size)

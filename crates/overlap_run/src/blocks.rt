@@ -1,0 +1,111 @@
+// A block of source faces: its pieces, or how many there are.
+ghost use Rattle.std.specs.Prelude.{◌≡◌, ◌+◌, ◌*◌, ◌<◌, ◌≤◌, ◌^◌, IfOk, OnOk, length, min};
+ghost use Rattle.cell_index.specs.IndexOf.{IsIndexOf};
+ghost use Rattle.overlap_run.specs.Parts.{IsBlockOf, IsNumberedBlock, TakesBlock, DoMeetWithin, clip_count};
+
+use crate::Gate;
+use crate::faces::clip_face;
+use cell_index::{Index, find_candidates};
+use clip::{PieceList, Pieces};
+use mesh_check::{Mesh, face_count};
+use std::alloc::Global;
+use std::sync::ledger::Ledger;
+use vec_exact::{NoMemory, Steps};
+
+// Block s, from 0, holds the source faces from 64 s + 1 to 64 s + 64, as far as the mesh has them.
+pub const BLOCK_SIZE: u32 = 64;
+
+// An overlap has at most this many pieces.
+pub const GREATEST_COUNT: u64 = 8_388_608;
+
+/// How many pieces some source faces have, and the pieces in ascending order of source face and
+/// then of target face. Where there are more than 8,388,608, none is kept.
+#[derive(Drop)]
+pub struct Block<C = Pieces> {
+    /// How many pieces there are.
+    pub count: u64,
+    /// The pieces, or none past the limit.
+    pub pieces: C,
+}
+
+/// The block of the source faces from `from` to `to` of `a`, which count from 1: each is clipped with
+/// its candidates among the faces of `b`, whose index is `index`. There is no face where `from` is
+/// `to` + 1. Its only error is want of memory.
+///
+/// It takes one step for each candidate of these faces, and no more than that after an error.
+pub fn clip_block<C: PieceList, L: Ledger>(
+    alloc: Global,
+    a: &Mesh,
+    b: &Mesh,
+    index: &Index,
+    from: u32,
+    to: u32,
+    steps: &mut Steps<L>,
+) -> Result<Block<C>, NoMemory>
+    requires from { (1 ≤ from) × (from ≤ to + 1) }
+    requires to { to ≤ length a.now.faces }
+    requires index { IsIndexOf index.now b.now }
+    ensures block { IfOk result (IsBlockOf C.holds a.now b.now (DoMeetWithin a.now b.now from to)) }
+    ensures few { IfOk result (λ block. block.count ≤ clip_count a.now b.now from to) }
+    ensures target_limit { length b.now.faces ≤ 1048576 }
+    ensures ticks { OnOk result (steps.new ≡ steps.old + clip_count a.now b.now from to) }
+    ensures most { steps.new ≤ steps.old + clip_count a.now b.now from to }
+{
+    // The counts say that all numbers fit.
+    let _source_faces = face_count(a);
+    let _target_faces = face_count(b);
+    let mut block = Block {
+        count: 0,
+        pieces: C::none(alloc),
+    };
+    let mut targets = Vec::new(alloc);
+    for i in from..to + 1 {
+        find_candidates(index, a, i, &mut targets)?;
+        clip_face(alloc, a, i, b, &targets, &mut block, steps)?;
+    }
+    Ok(block)
+}
+
+// Block s, between the calls of the gate.
+pub fn numbered_block<C: PieceList, G: Gate, L: Ledger>(
+    alloc: Global,
+    a: &Mesh,
+    b: &Mesh,
+    index: &Index,
+    gate: &G,
+    s: u32,
+    steps: &mut Steps<L>,
+) -> Result<Block<C>, NoMemory>
+    requires index { IsIndexOf index.now b.now }
+    requires block { 64 * s < length a.now.faces }
+    ensures block { IfOk result (IsNumberedBlock C.holds a.now b.now s) }
+    ensures ticks { OnOk result (steps.new ≡ steps.old + clip_count a.now b.now (64 * s + 1) (min (length a.now.faces) (64 * (s + 1)))) }
+    ensures most { steps.new ≤ steps.old + clip_count a.now b.now (64 * s + 1) (min (length a.now.faces) (64 * (s + 1))) }
+{
+    let faces = face_count(a);
+    let from = BLOCK_SIZE * s + 1;
+    let to = faces.min(BLOCK_SIZE * (s + 1));
+    gate.enter(s);
+    let block = clip_block(alloc, a, b, index, from, to, steps)?;
+    gate.leave(s);
+    Ok(block)
+}
+
+// Puts the pieces of one block more behind those of the blocks so far. Past the limit all pieces are
+// dropped, and the counts go on.
+pub fn take_block<C: PieceList>(
+    alloc: Global,
+    run: &mut Block<C>,
+    block: Block<C>,
+) -> Result<(), NoMemory>
+    requires room { run.old.count + block.count < 2 ^ 64 }
+    ensures { OnOk result (TakesBlock C.holds run.old block run.new) }
+{
+    run.count += block.count;
+    if run.count > GREATEST_COUNT {
+        run.pieces = C::none(alloc);
+        return Ok(());
+    }
+    run.pieces.append(block.pieces)?;
+    Ok(())
+}

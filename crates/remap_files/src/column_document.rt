@@ -1,0 +1,102 @@
+// The document of an overlap whose pieces stand in columns.
+ghost use Rattle.std.specs.Prelude.{◌≡◌, ◌≤◌, ◌*◌, length, IfOk};
+ghost use Rattle.nc_write.specs.File.{file_of};
+ghost use Rattle.nc_write.specs.Form.{IsWellFormed};
+ghost use Rattle.clip.specs.Columns.{AreColumnsOf};
+ghost use Rattle.clip.specs.Overlaps.{OverlapParts};
+ghost use Rattle.clip.specs.declared.pieces.Piece.{Piece as OnePiece};
+ghost use Rattle.std.specs.Prelude.{List};
+ghost use Rattle.remap_files.specs.InColumns.{IsInColumns};
+ghost use Rattle.remap_files.specs.OverlapDocument.{corner_count_of, overlap_vars, overlap_document};
+
+use crate::document::{bytes, ints, make_attributes, make_dimensions};
+use crate::lengths::overlap_length;
+use crate::names::make_variable;
+use clip::Columns;
+use nc_write::{DocAtts, DocDims, DocVar, DocVars, NcDoc};
+use std::alloc::{AllocError, Global};
+use vec_exact::NoMemory;
+
+// How many pieces and how many corners the columns hold.
+#[tactic(auto, using(crate::proofs::ColumnCounts::column_counts))]
+fn counts(columns: &Columns, faces_a: u32, faces_b: u32) -> (u32, u32)
+    requires held { (o : OverlapParts) × IsInColumns o faces_a faces_b columns.now }
+    ensures pieces { (o : OverlapParts) → IsInColumns o faces_a faces_b columns.now → result.0 ≡ length o.pieces }
+    ensures corners { (o : OverlapParts) → IsInColumns o faces_a faces_b columns.now → result.1 ≡ corner_count_of o.pieces }
+    ensures few { result.0 ≤ 8388608 }
+    ensures most { result.1 ≤ 32 * result.0 }
+{
+    (
+        columns.sources.len() as u32,
+        columns.ring_planes.len() as u32,
+    )
+}
+
+// The five variables, which take over the columns.
+fn column_variables(alloc: Global, columns: Columns) -> Result<Vec<DocVar>, AllocError>
+    ensures { (pieces : List OnePiece) → AreColumnsOf pieces columns → IfOk result (λ vars. vars.items ≡ overlap_vars pieces) }
+{
+    let mut vars = Vec::with_capacity(alloc, 5)?;
+    vars.push(make_variable(alloc, "source", &[0], ints(columns.sources))?)?;
+    vars.push(make_variable(alloc, "target", &[0], ints(columns.targets))?)?;
+    vars.push(make_variable(alloc, "ring_size", &[0], bytes(columns.ring_sizes))?)?;
+    vars.push(make_variable(alloc, "ring_plane", &[1], bytes(columns.ring_planes))?)?;
+    vars.push(make_variable(alloc, "corner", &[1, 2], ints(columns.corners))?)?;
+    Ok(vars)
+}
+
+// The document, with the counts of pieces and of corners at hand.
+#[tactic(auto, unfolding(crate::specs::OverlapDocument::overlap_document))]
+fn document_of(
+    alloc: Global,
+    faces_a: u32,
+    faces_b: u32,
+    columns: Columns,
+) -> Result<NcDoc, AllocError>
+    requires held { (o : OverlapParts) × IsInColumns o faces_a faces_b columns }
+    ensures { (o : OverlapParts) → IsInColumns o faces_a faces_b columns → IfOk result (λ doc. doc ≡ overlap_document o) }
+{
+    let (pieces, corners) = counts(&columns, faces_a, faces_b);
+    let (dims, vars) = if pieces == 0 {
+        (Vec::new(alloc), Vec::new(alloc))
+    } else {
+        (
+            make_dimensions(alloc, pieces, corners)?,
+            column_variables(alloc, columns)?,
+        )
+    };
+    let atts = make_attributes(alloc, faces_a, faces_b, pieces)?;
+    Ok(NcDoc {
+        records: 0,
+        dims: DocDims { items: dims },
+        atts: DocAtts { items: atts },
+        vars: DocVars { items: vars },
+    })
+}
+
+/// The document of the overlap that stands in these columns, as `overlap_doc` gives it. The columns
+/// become its variables. `faces_a` and `faces_b` are the face counts of the two meshes. Its only
+/// error is want of memory.
+pub fn columns_doc(
+    alloc: Global,
+    faces_a: u32,
+    faces_b: u32,
+    columns: Columns,
+) -> Result<NcDoc, NoMemory>
+    requires held { (o : OverlapParts) × IsInColumns o faces_a faces_b columns }
+    ensures document { (o : OverlapParts) → IsInColumns o faces_a faces_b columns → IfOk result (λ doc. doc ≡ overlap_document o) }
+    ensures well_formed { IfOk result IsWellFormed }
+{
+    let doc = document_of(alloc, faces_a, faces_b, columns)?;
+    Ok(doc)
+}
+
+/// The length, in bytes, of the file of the overlap that stands in these columns. It is known before
+/// the document is made.
+pub fn columns_length(faces_a: u32, faces_b: u32, columns: &Columns) -> u64
+    requires held { (o : OverlapParts) × IsInColumns o faces_a faces_b columns.now }
+    ensures { (o : OverlapParts) → IsInColumns o faces_a faces_b columns.now → result ≡ length (file_of (overlap_document o)) }
+{
+    let (pieces, corners) = counts(columns, faces_a, faces_b);
+    overlap_length(u64::from(pieces), u64::from(corners))
+}

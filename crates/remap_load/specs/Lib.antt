@@ -1,0 +1,4 @@
+pub mod Faults
+pub mod Frame
+pub mod Heads
+pub mod Pieces

@@ -1,0 +1,123 @@
+// The header of a file, from as few of its first bytes as have it.
+ghost use Rattle.std.specs.Prelude.{◌≡◌, ◌⊎◌, ◌≤◌, ◌<◌, ◌+◌, ◌*◌, ℕ, List, length, min, IfSome, IfOk, IfErr, OnOk, IsErrOf, Ok, None, Some};
+ghost use Rattle.remap_io.specs.Causes.{Rose};
+ghost use Rattle.nc_format.specs.declared.fault.NcFault.{NcFault};
+ghost use Rattle.nc_format.specs.declared.NcFile.{NcFile};
+ghost use Rattle.nc_format.specs.Header.{IsHeader, first_fault};
+ghost use Rattle.remap_load.specs.Frame.{OnlyReads, OnFile, Holds, Lacks};
+ghost use Rattle.remap_load.specs.Heads.{IsHead, IsHeadOfBytes, header_cost, IsFront, IsCut, IsGrown};
+ghost use Rattle.remap_load.specs.Faults.{IsFaultOf, IsOfFront, Refuses, Finds};
+
+use crate::reads::{length_of, read_behind};
+use crate::{Head, LoadFault};
+use nc_format::{Bytes, NcFault, NcFile, read_header};
+use remap_io::Files;
+use std::alloc::Global;
+
+// How many bytes are read first.
+const FIRST: u64 = 65_536;
+
+// The header of a file of `len` bytes, where its first bytes `front` have it; None where more of
+// them are wanted.
+fn header_in(alloc: Global, front: &[u8], len: u64) -> Result<Option<NcFile>, LoadFault>
+    requires within { length front.now ≤ len }
+    requires short { len ≤ 2147483647 }
+    ensures header { IfOk result (λ found. IfSome found (λ file. IsHeader front.now len file)) }
+    ensures cut { result ≡ Ok None → IsCut front.now len }
+    ensures fault { IfErr result (IsOfFront front.now len) }
+{
+    match read_header(alloc, front, len) {
+        Ok(file) => Ok(Some(file)),
+        Err(NcFault::NoMemory) => Err(LoadFault::NoMemory),
+        Err(NcFault::Truncated(at)) => {
+            if (front.len() as u64) < len {
+                return Ok(None);
+            }
+            Err(LoadFault::Format(NcFault::Truncated(at)))
+        }
+        Err(fault) => Err(LoadFault::Format(fault)),
+    }
+}
+
+// The head of a file of `len` bytes, of which `front` are the first ones. They grow to twice as many
+// as long as they end inside the header.
+fn load_from<F: Files>(
+    alloc: Global,
+    files: &mut F,
+    name: &str,
+    len: u64,
+    front: Vec<u8>,
+) -> Result<Head, LoadFault>
+    requires short { len ≤ 2147483647 }
+    requires first { length front.items ≡ min len 65536 }
+    requires front { OnFile (F.folder files.old) name.now (IsFront front.items len) }
+    ensures head { IfOk result IsHead }
+    ensures of_file { IfOk result (λ head. OnFile (F.folder files.old) name.now (IsHeadOfBytes head)) }
+    ensures grown { IfOk result (λ head. IsGrown head.prefix head.len) }
+    ensures absent { IsErrOf result LoadFault.Absent → Rose (F.misses files.old) (F.misses files.new) }
+    ensures failed { IsErrOf result LoadFault.Failed → Rose (F.faults files.old) (F.faults files.new) }
+    ensures fault { IfErr result (IsFaultOf (F.folder files.old) name.now) }
+    ensures reads { OnlyReads F.folder F.faults F.write_faults F.misses F.taken files.old files.new }
+    ensures taken { IfOk result (λ head. F.taken files.new + length front.items ≤ F.taken files.old + length head.prefix) }
+{
+    let mut front = front;
+    'growing: loop {
+        if let Some(file) = header_in(alloc, &front, len)? {
+            let prefix = Bytes { items: front };
+            return Ok(Head { file, len, prefix });
+        }
+        let have = front.len();
+        let more = have.min(len as usize - have);
+        read_behind(files, name, have as u64, more, &mut front)?;
+    }
+}
+
+// The head of a file, by what is proved on the way.
+fn load_head<F: Files>(alloc: Global, files: &mut F, name: &str) -> Result<Head, LoadFault>
+    ensures head { IfOk result IsHead }
+    ensures of_file { IfOk result (λ head. OnFile (F.folder files.old) name.now (IsHeadOfBytes head)) }
+    ensures grown { IfOk result (λ head. IsGrown head.prefix head.len) }
+    ensures absent { IsErrOf result LoadFault.Absent → Rose (F.misses files.old) (F.misses files.new) }
+    ensures failed { IsErrOf result LoadFault.Failed → Rose (F.faults files.old) (F.faults files.new) }
+    ensures fault { IfErr result (IsFaultOf (F.folder files.old) name.now) }
+    ensures reads { OnlyReads F.folder F.faults F.write_faults F.misses F.taken files.old files.new }
+    ensures taken { IfOk result (λ head. F.taken files.new ≤ F.taken files.old + length head.prefix) }
+{
+    let len = length_of(files, name)?;
+    let mut front = Vec::new(alloc);
+    read_behind(files, name, 0, len.min(FIRST) as usize, &mut front)?;
+    load_from(alloc, files, name, len, front)
+}
+
+/// The head of the named file: its header, its length, and the first bytes, which were read for it.
+///
+/// The first 65,536 bytes are read, or all where there are fewer. As long as they end inside the
+/// header, twice as many are taken, or all; only the new ones are read. `Absent` says that there is
+/// no such file, `TooLong(n)` that it has n bytes, more than 2,147,483,647, and `Format(x)` that x is
+/// the first fault of its header. `Failed` and `NoMemory` may come in place of any answer.
+pub fn load_header<F: Files>(alloc: Global, files: &mut F, name: &str) -> Result<Head, LoadFault>
+    // What is answered is a head, and that of the file, where the folder is told.
+    ensures head { IfOk result IsHead }
+    ensures of_file { IfOk result (λ head. OnFile (F.folder files.old) name.now (IsHeadOfBytes head)) }
+
+    // A miss or a failed read is counted; any other fault stands in the file, where the folder is told.
+    ensures absent { IsErrOf result LoadFault.Absent → Rose (F.misses files.old) (F.misses files.new) }
+    ensures failed { IsErrOf result LoadFault.Failed → Rose (F.faults files.old) (F.faults files.new) }
+    ensures fault { IfErr result (IsFaultOf (F.folder files.old) name.now) }
+
+    // What stands in a told folder is answered, unless a read fails or memory runs out.
+    ensures lacking { Lacks (F.folder files.old) name.now → Refuses LoadFault.Absent result }
+    ensures long { (bytes : List ℕ) → Holds (F.folder files.old) name.now bytes → 2147483647 < length bytes → Refuses (LoadFault.TooLong (length bytes)) result }
+    ensures faulty { (bytes : List ℕ) (e : NcFault) → Holds (F.folder files.old) name.now bytes → length bytes ≤ 2147483647
+        → first_fault bytes (length bytes) ≡ Some e → Refuses (LoadFault.Format e) result }
+    ensures found { (bytes : List ℕ) (f : NcFile) → Holds (F.folder files.old) name.now bytes → length bytes ≤ 2147483647
+        → IsHeader bytes (length bytes) f → Finds f result }
+
+    // No file changes, and no count falls. What was asked for is at most 65,536 bytes, or twice the header.
+    ensures reads { OnlyReads F.folder F.faults F.write_faults F.misses F.taken files.old files.new }
+    ensures taken { IfOk result (λ head. (h : IsHeader head.prefix head.len head.file) → F.taken files.new ≤ F.taken files.old + header_cost (length h.header)) }
+    ensures taken_of_file { IfOk result (λ head. OnFile (F.folder files.old) name.now (λ bytes.
+        (h : IsHeader bytes (length bytes) head.file) → F.taken files.new ≤ F.taken files.old + header_cost (length h.header))) }
+{
+    load_head(alloc, files, name)
+}

@@ -1,0 +1,23 @@
+//! Headers and variables of netCDF files, by positioned reads.
+#![tactic(auto)]
+
+mod fault;
+mod header;
+mod reads;
+#[cfg(test)]
+mod tests;
+mod variables;
+
+pub use fault::LoadFault;
+pub use header::load_header;
+use nc_format::{Bytes, NcFile};
+pub use variables::{load_ints, load_longs};
+
+/// The head of a file: its header, its length in bytes, and the first bytes of it, which were read
+/// for the header.
+#[derive(Drop)]
+pub struct Head {
+    pub file: NcFile,
+    pub len: u64,
+    pub prefix: Bytes,
+}

@@ -1,0 +1,191 @@
+// The command that finds the pieces of two meshes.
+ghost use Rattle.std.specs.Prelude.{◌≡◌, ◌≢◌, ◌≤◌, ◌<◌, ◌+◌, ◌⊎◌, ◌∷◌, [], IfOk, IfErr, IfSome, Some, length, string_bytes};
+ghost use Rattle.remap_io.specs.Causes.{Rose};
+ghost use Rattle.nc_write.specs.File.{file_of};
+ghost use Rattle.clip.specs.Overlaps.{OverlapParts};
+ghost use Rattle.clip.specs.Columns.{AreColumnsOf};
+ghost use Rattle.overlap_run.specs.Whole.{HoldsOverlap, IsRefusalOf};
+ghost use Rattle.remap_files.specs.OverlapDocument.{overlap_document};
+ghost use Rattle.remap_files.specs.InColumns.{IsInColumns};
+ghost use Rattle.command_line.specs.declared.choices.Chosen.TheVariants.{Overlap as OverlapOf};
+ghost use Rattle.tempest_top.specs.Lines.{pieces_text};
+ghost use Rattle.tempest_top.specs.Inputs.{MeshFile, reading_cost};
+ghost use Rattle.tempest_top.specs.Outcome.{IsOutcomeOfDocument, IsOutcomeOfPair};
+ghost use Rattle.tempest_top.specs.Ends.{Comes};
+ghost use Rattle.tempest_top.specs.Promises.{Keeps};
+
+use crate::Status;
+use crate::faults::{refuse_length, refuse_mesh_file, refuse_run};
+use crate::finish::{refuse_memory, write_then_text};
+use clip::Columns;
+use command_line::Text;
+use mesh_check::{Mesh, face_count};
+use mesh_load::load_mesh;
+use nc_write::{EncFault, encode};
+use overlap_run::{OpenGate, RunFault, overlap_list};
+use remap_files::{columns_doc, columns_length};
+use remap_io::{Files, Sink};
+use std::alloc::Global;
+use std::marker::Brand;
+use std::sync::ledger::{Blank, Ledger};
+use std::thread::Threads;
+use vec_exact::{NoMemory, Steps};
+
+// The greatest length of a file.
+const MAX_LEN: u64 = 2_147_483_647;
+
+// The pieces of the overlap in columns, with a counter of its own.
+fn counted<R: Threads, L: Ledger>(
+    rt: &R,
+    alloc: Global,
+    a: &Mesh,
+    b: &Mesh,
+    workers: u32,
+    blank: Blank,
+) -> Result<Columns, RunFault>
+    requires name { blank.name ≡ L.name }
+    requires parts { blank.parts ≡ L.parts }
+    requires some { 0 < blank.parts }
+    requires workers { (1 ≤ workers) × (workers ≤ 64) }
+    ensures overlap { IfOk result (HoldsOverlap (λ columns pieces. AreColumnsOf pieces columns) a.now b.now) }
+    ensures refusal { IfErr result (IsRefusalOf a.now b.now) }
+{
+    let mut steps = Steps::<L>::new(blank);
+    overlap_list(rt, alloc, a, b, workers, &OpenGate, &mut steps)
+}
+
+// The pieces of the overlap of two meshes, in columns.
+fn meet<R: Threads>(
+    rt: &R,
+    alloc: Global,
+    a: &Mesh,
+    b: &Mesh,
+    workers: u32,
+) -> Result<Columns, RunFault>
+    requires { (1 ≤ workers) × (workers ≤ 64) }
+    ensures overlap { IfOk result (HoldsOverlap (λ columns pieces. AreColumnsOf pieces columns) a.now b.now) }
+    ensures refusal { IfErr result (IsRefusalOf a.now b.now) }
+{
+    counted::<R, Brand>(rt, alloc, a, b, workers, Blank::new(1))
+}
+
+// The bytes of the file of an overlap, and the text that tells how many pieces it has.
+fn overlap_file(
+    alloc: Global,
+    faces_a: u32,
+    faces_b: u32,
+    columns: Columns,
+) -> Result<(Vec<u8>, String), NoMemory>
+    requires held { (o : OverlapParts) × IsInColumns o faces_a faces_b columns × (length (file_of (overlap_document o)) ≤ 2147483647) }
+    ensures bytes { (o : OverlapParts) → IsInColumns o faces_a faces_b columns → IfOk result (λ p. p.0.items ≡ file_of (overlap_document o)) }
+    ensures text { (o : OverlapParts) → IsInColumns o faces_a faces_b columns → IfOk result (λ p. string_bytes p.1 ≡ pieces_text (length o.pieces)) }
+{
+    let pieces = columns.sources.len();
+    let text = format!(in alloc; "pieces {pieces}\n")?;
+    let doc = columns_doc(alloc, faces_a, faces_b, columns)?;
+    match encode(alloc, &doc) {
+        Ok(bytes) => Ok((bytes, text)),
+        Err(EncFault::NoMemory) => Err(NoMemory),
+        Err(EncFault::TooLarge(_)) => unreachable!(),
+    }
+}
+
+// Writes an overlap to `file`, and puts how many pieces it has. A file that would be too long is
+// refused before its document is made.
+fn write_overlap<F: Files, O: Sink, E: Sink>(
+    alloc: Global,
+    faces_a: u32,
+    faces_b: u32,
+    columns: Columns,
+    file: &str,
+    files: &mut F,
+    out: &mut O,
+    err: &mut E,
+) -> Status
+    requires held { (o : OverlapParts) × IsInColumns o faces_a faces_b columns }
+    ensures comes { (o : OverlapParts) → IsInColumns o faces_a faces_b columns
+        → Comes (IsOutcomeOfDocument (overlap_document o) (pieces_text (length o.pieces)) file.now (F.folder files.old)) (F.folder files.old) (F.folder files.new)
+        (Rose (F.write_faults files.old) (F.write_faults files.new)) (Rose (O.faults out.old) (O.faults out.new))
+        (O.contents out.old) (O.contents out.new) (E.contents err.old) (E.contents err.new)
+        (Rose (E.faults err.old) (E.faults err.new) ⊎ Rose (E.refusals err.old) (E.refusals err.new)) result }
+    ensures no_line { result ≡ Status.Done → err.new ≡ err.old }
+    ensures no_reads { F.taken files.new ≡ F.taken files.old }
+    ensures only { (result ≢ Status.Usage) × (result ≢ Status.NoFile) }
+{
+    let length = columns_length(faces_a, faces_b, &columns);
+    if length > MAX_LEN {
+        return refuse_length(err, file, length);
+    }
+    let Ok((bytes, text)) = overlap_file(alloc, faces_a, faces_b, columns) else {
+        return refuse_memory(err);
+    };
+    write_then_text(files, out, err, file, &bytes, text.as_bytes())
+}
+
+// Writes the overlap of two meshes, which are let go when it is found.
+fn write_pair<R: Threads, F: Files, O: Sink, E: Sink>(
+    rt: &R,
+    alloc: Global,
+    a: Mesh,
+    b: Mesh,
+    workers: u32,
+    file: &str,
+    files: &mut F,
+    out: &mut O,
+    err: &mut E,
+) -> Status
+    requires { (1 ≤ workers) × (workers ≤ 64) }
+    ensures comes { Comes (IsOutcomeOfPair a b file.now (F.folder files.old)) (F.folder files.old) (F.folder files.new)
+        (Rose (F.write_faults files.old) (F.write_faults files.new)) (Rose (O.faults out.old) (O.faults out.new))
+        (O.contents out.old) (O.contents out.new) (E.contents err.old) (E.contents err.new)
+        (Rose (E.faults err.old) (E.faults err.new) ⊎ Rose (E.refusals err.old) (E.refusals err.new)) result }
+    ensures no_line { result ≡ Status.Done → err.new ≡ err.old }
+    ensures no_reads { F.taken files.new ≡ F.taken files.old }
+    ensures only { (result ≢ Status.Usage) × (result ≢ Status.NoFile) }
+{
+    let columns = match meet(rt, alloc, &a, &b, workers) {
+        Ok(columns) => columns,
+        Err(fault) => return refuse_run(err, fault),
+    };
+    let faces_a = face_count(&a);
+    let faces_b = face_count(&b);
+    drop(a);
+    drop(b);
+    write_overlap(alloc, faces_a, faces_b, columns, file, files, out, err)
+}
+
+/// `GenerateOverlapMesh`: finds all pieces that the source mesh in `a` and the target mesh in `b`
+/// share, with 1 to 64 workers, writes them to `file`, and puts how many there are.
+pub fn generate_overlap<R: Threads, F: Files, O: Sink, E: Sink>(
+    rt: &R,
+    alloc: Global,
+    a: &Text,
+    b: &Text,
+    file: &Text,
+    workers: u32,
+    files: &mut F,
+    out: &mut O,
+    err: &mut E,
+) -> Status
+    requires { (1 ≤ workers) × (workers ≤ 64) }
+    ensures kept { Keeps (Some (OverlapOf a.now b.now file.now workers)) (F.folder files.old) (F.folder files.new)
+        (Rose (F.misses files.old) (F.misses files.new)) (Rose (F.faults files.old) (F.faults files.new)) (Rose (F.write_faults files.old) (F.write_faults files.new)) (Rose (O.faults out.old) (O.faults out.new))
+        (O.contents out.old) (O.contents out.new) (E.contents err.old) (E.contents err.new)
+        (Rose (E.faults err.old) (E.faults err.new) ⊎ Rose (E.refusals err.old) (E.refusals err.new)) result }
+    ensures no_line { result ≡ Status.Done → err.new ≡ err.old }
+    ensures bytes_read { result ≡ Status.Done → IfSome (F.folder files.old) (λ m. F.taken files.new ≤ F.taken files.old + reading_cost m (MeshFile a.now ∷ MeshFile b.now ∷ [])) }
+    ensures only { result ≢ Status.Usage }
+{
+    let source_name = a.text.as_str();
+    let source = match load_mesh(alloc, files, source_name) {
+        Ok(mesh) => mesh,
+        Err(why) => return refuse_mesh_file(err, source_name, why),
+    };
+    let target_name = b.text.as_str();
+    let target = match load_mesh(alloc, files, target_name) {
+        Ok(mesh) => mesh,
+        Err(why) => return refuse_mesh_file(err, target_name, why),
+    };
+    let output = file.text.as_str();
+    write_pair(rt, alloc, source, target, workers, output, files, out, err)
+}
