@@ -1,5 +1,5 @@
 -- Where names are found, the counts are within their limits, and each variable has the type and the lengths that an overlap has.
-use Rattle.std.proofs.Common.{◌≡◌, ◌≢◌, ◌==◌, ◌≤◌, ◌*◌, ℕ, zero, suc, ℤ, Bool, true, false, if◌then◌else◌, List, [], ◌∷◌, length, map, All, Option, Some, None, Result, Ok, Err, slice_get, slice_index, refl, ap, ap₂, sym, subst, ◌∙◌, arith, unsigned_abs}
+use Rattle.std.proofs.Common.{◌≡◌, ◌≢◌, ◌==◌, ◌≤◌, ◌*◌, ℕ, Bool, true, false, if◌then◌else◌, List, [], ◌∷◌, length, map, All, Result, Ok, Err, slice_get, slice_index, refl, ap, ap₂, sym, subst, ◌∙◌, arith, unsigned_abs}
 use Rattle.std.proofs.lemmas.Bool.Decides.{nat_tests}
 use Rattle.std.proofs.lemmas.List.Elements.{All-from_recursion}
 use Rattle.clip.specs.Overlaps.{IsFaceCount}
@@ -16,7 +16,6 @@ use Rattle.exodus_mesh.specs.declared.vars.CoordVars.TheVariants.{Split}
 use Rattle.exodus_mesh.specs.declared.vars.BlockVar.{BlockVar}
 use Rattle.exodus_mesh.specs.Names.{◌>>=◌, found_or}
 use Rattle.exodus_mesh.specs.MeshNames.{place_of, of_int, int_lens, one_len, two_lens, same_len, axis_len}
-use Rattle.exodus_mesh.specs.MeshIn.{values_in}
 use Rattle.exodus_mesh.specs.Found.{IsIntVar}
 use Rattle.exodus_mesh.proofs.FoundVars.{value_ok, ok_same, found_ok}
 use Rattle.exodus_mesh.proofs.VarValues.{coords_len, rows_len}

@@ -1,5 +1,5 @@
 -- What holds of rows that are at no fault, and of the overlap that they make.
-use Rattle.std.proofs.Common.{◌≡◌, ◌<◌, ◌≤◌, ◌+◌, ◌-◌, ◌*◌, ◌⊎◌, inl, inr, ◌==◌, ℕ, zero, suc, ℤ, pos, negsuc, Bool, true, false, ◌&&◌, ◌||◌, int_le, int_lt, List, [], ◌∷◌, length, map, take, drop, All, AllPairs, refl, ap, ap₂, sym, subst, ◌∙◌, arith, unsigned_abs, slice_index_or, nat_le, Some, None}
+use Rattle.std.proofs.Common.{◌≡◌, ◌<◌, ◌≤◌, ◌+◌, ◌-◌, ◌*◌, ◌⊎◌, inl, inr, ◌==◌, ℕ, zero, suc, ℤ, pos, negsuc, Bool, true, false, ◌&&◌, ◌||◌, int_lt, List, [], ◌∷◌, length, map, drop, All, refl, ap, sym, subst, ◌∙◌, arith, unsigned_abs, slice_index_or, nat_le, None}
 use Rattle.std.specs.List.{list_all, range_with_len}
 use Rattle.std.specs.Ordering.{int_eq}
 use Rattle.std.proofs.lemmas.Int.{ints}
@@ -8,12 +8,11 @@ use Rattle.std.proofs.lemmas.List.{length-map, length-drop, length-take-le}
 use Rattle.std.proofs.lemmas.List.Elements.{All-map, All-cons, All-from_recursion}
 use Rattle.std.proofs.lemmas.List.FromFn.{length-map-range_with_len, get_or-map-range_with_len}
 use Rattle.clip.specs.declared.pieces.Piece.{Piece}
-use Rattle.clip.specs.Overlaps.{OverlapParts, IsBefore, IsRingNumber, IsFaceCount, IsSoundPiece, IsSoundOverlap}
+use Rattle.clip.specs.Overlaps.{IsBefore, IsRingNumber, IsFaceCount, IsSoundPiece, IsSoundOverlap}
 use Rattle.clip.proofs.PieceOrder.{before_trans}
-use Rattle.exodus_mesh.specs.MeshValues.{rows_of}
 use Rattle.remap_files.specs.declared.vars.OverlapVars.{OverlapVars}
 use Rattle.remap_files.specs.OverlapNames.{is_within}
-use Rattle.remap_files.specs.OverlapRows.{Columns, columns_of, at_row, exceeds, has_good_faces, ring_begin, ring_len, ring_at, has_good_ring, is_good_row, piece_at, row_fault, overlap_at}
+use Rattle.remap_files.specs.OverlapRows.{Columns, at_row, exceeds, has_good_faces, ring_begin, ring_len, ring_at, has_good_ring, is_good_row, piece_at, row_fault, overlap_at}
 use Rattle.remap_files.specs.Rows.{IsGoodRing}
 use Rattle.remap_files.proofs.RowFaults.{AreGood, all_are_good}
 use Rattle.remap_files.proofs.Triples.{length_rows}

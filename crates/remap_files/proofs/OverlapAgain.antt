@@ -1,18 +1,16 @@
 -- An overlap is read again from the file of its document.
-use Rattle.std.proofs.Common.{◌≡◌, ◌≢◌, ◌==◌, ◌≤◌, ◌<◌, ◌^◌, ℕ, ℤ, zero, suc, pos, true, false, List, [], ◌∷◌, ◌++◌, length, map, All, Some, Ok, FitsSigned, refl, ap, ap₂, subst, sym, ◌∙◌, arith, slice_index_or, unsigned_abs}
+use Rattle.std.proofs.Common.{◌≡◌, ◌==◌, ◌≤◌, ◌<◌, ◌^◌, ℕ, ℤ, pos, true, false, List, [], ◌∷◌, length, map, All, Some, Ok, FitsSigned, refl, ap, ap₂, subst, sym, ◌∙◌, arith, slice_index_or}
 use Rattle.std.specs.Prelude.{codes}
-use Rattle.std.specs.List.{flat_map, range_with_len, AllByRecursion}
+use Rattle.std.specs.List.{flat_map, AllByRecursion}
 use Rattle.std.specs.Int.{w8, w32}
 use Rattle.std.proofs.lemmas.Int.{ints, fits_signed_from_abs}
 use Rattle.std.proofs.lemmas.Bool.Decides.{nat_tests}
-use Rattle.std.proofs.lemmas.List.{append-nil}
 use Rattle.std.proofs.lemmas.List.Elements.{All-from_recursion, recursion_from_All, All-append, All-map, All-nil}
 use Rattle.clip.specs.declared.pieces.Piece.{Piece}
 use Rattle.clip.specs.Overlaps.{OverlapParts, IsRingNumber, IsSoundOverlap}
 use Rattle.nc_write.specs.declared.NcKind.TheVariants as kinds
 use Rattle.nc_write.specs.Kinds.{value}
 use Rattle.nc_write.specs.File.{file_of}
-use Rattle.nc_write.specs.Form.{IsWellFormed}
 use Rattle.nc_format.specs.declared.NcFile.{NcFile}
 use Rattle.nc_format.specs.Placing.{placed}
 use Rattle.nc_format.specs.Header.{IsHeader}
@@ -23,15 +21,14 @@ use Rattle.nc_format.proofs.Inside.{doc_header}
 use Rattle.nc_format.proofs.ReadBack.{numbers_back}
 use Rattle.nc_format.proofs.Gathered.{doc_values}
 use Rattle.exodus_mesh.specs.declared.ids.NameId.{NameId}
-use Rattle.exodus_mesh.specs.declared.ids.NameId.TheVariants.{FacesA, FacesB, Pieces, Source, Target, RingSize, RingPlane, Corner}
-use Rattle.exodus_mesh.specs.Names.{name_of, ◌>>=◌}
+use Rattle.exodus_mesh.specs.declared.ids.NameId.TheVariants.{FacesA, FacesB, Pieces, Source, Target, RingSize}
+use Rattle.exodus_mesh.specs.Names.{name_of}
 use Rattle.exodus_mesh.specs.MeshNames.{int_lens, axis_len}
-use Rattle.exodus_mesh.specs.MeshIn.{values_in}
 use Rattle.remap_files.specs.declared.vars.OverlapVars.{OverlapVars}
 use Rattle.clip.specs.Columns.{source_column, target_column, ring_size_column, ring_numbers, ring_plane_column, triple_of, corner_numbers, corner_column}
 use Rattle.remap_files.specs.OverlapDocument.{attribute_of, corner_count_of, overlap_document, IsCorner, HasCorners}
 use Rattle.remap_files.specs.OverlapNames.{is_within, att_in, count_in, column_in, planes_in, corner_in, five_in, no_vars, overlap_vars_in}
-use Rattle.remap_files.specs.OverlapRows.{columns_of, piece_at, overlap_at, overlap_of}
+use Rattle.remap_files.specs.OverlapRows.{overlap_of}
 use Rattle.remap_files.specs.OverlapIn.{lists_in, overlap_in}
 use Rattle.remap_files.proofs.Triples.{triple_is}
 use Rattle.remap_files.proofs.OverlapLength.{parts_of, not_zero, all_small, least_count, overlap_document_form}

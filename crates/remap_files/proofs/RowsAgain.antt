@@ -1,11 +1,11 @@
 -- The rows that are written of an overlap are its pieces again.
-use Rattle.std.proofs.Common.{◌≡◌, ◌<◌, ◌≤◌, ◌+◌, ◌-◌, ◌*◌, ◌⊎◌, inl, inr, ◌==◌, ℕ, zero, suc, ℤ, pos, Bool, true, false, int_lt, ◌&&◌, ◌||◌, List, [], ◌∷◌, ◌++◌, length, map, take, drop, All, AllPairs, None, refl, ap, ap₂, sym, subst, ◌∙◌, arith, unsigned_abs, slice_index_or, nat_le, length-append}
+use Rattle.std.proofs.Common.{◌≡◌, ◌<◌, ◌≤◌, ◌+◌, ◌-◌, ◌*◌, inl, inr, ◌==◌, ℕ, zero, suc, ℤ, pos, Bool, true, false, int_lt, ◌&&◌, ◌||◌, List, [], ◌∷◌, ◌++◌, length, map, take, drop, All, AllPairs, None, refl, ap, ap₂, sym, subst, ◌∙◌, arith, unsigned_abs, slice_index_or, nat_le}
 use Rattle.std.specs.Ordering.{int_eq}
 use Rattle.std.specs.List.{flat_map, list_all, range_with_len, sum_by, AllByRecursion}
 use Rattle.std.proofs.lemmas.Int.{ints}
 use Rattle.std.proofs.lemmas.Bool.Decides.{nat_tests, Decides-int_eq}
 use Rattle.std.proofs.lemmas.Grind.{flat_map-append}
-use Rattle.std.proofs.lemmas.List.{take-append-drop, drop_at, take_at, take_all, length-map, get_or-map, get_or-take, ext_get_or, length-take-le}
+use Rattle.std.proofs.lemmas.List.{take-append-drop, drop_at, take_at, take_all, length-map, get_or-map, get_or-take, ext_get_or}
 use Rattle.std.proofs.lemmas.List.Elements.{recursion_from_All}
 use Rattle.std.proofs.lemmas.List.FromFn.{length-map-range_with_len, get_or-map-range_with_len}
 use Rattle.std.proofs.lemmas.List.Sums.{sum_by-cons, sum_by-append}
@@ -17,7 +17,7 @@ use Rattle.remap_files.specs.declared.vars.OverlapVars.{OverlapVars}
 use Rattle.clip.specs.Columns.{source_column, target_column, ring_size_column, ring_numbers, ring_plane_column, triple_of, corner_numbers, corner_column}
 use Rattle.remap_files.specs.OverlapDocument.{corner_count_of, IsCorner, HasCorners}
 use Rattle.remap_files.specs.OverlapNames.{is_within}
-use Rattle.remap_files.specs.OverlapRows.{Columns, columns_of, at_row, exceeds, has_good_faces, ring_begin, ring_len, ring_at, has_good_ring, is_good_row, piece_of, piece_at, row_fault, overlap_at, overlap_of}
+use Rattle.remap_files.specs.OverlapRows.{Columns, at_row, exceeds, has_good_faces, ring_begin, ring_len, ring_at, has_good_ring, piece_of, piece_at, row_fault}
 use Rattle.remap_files.proofs.Triples.{triple_is}
 use Rattle.remap_files.proofs.OverlapLength.{length_planes, length_corners, HasItsCorners}
 use Rattle.remap_files.proofs.RowFaults.{AreGood, no_fault}

@@ -1,5 +1,5 @@
 -- Numbers three by three.
-use Rattle.std.proofs.Common.{◌≡◌, ◌≤◌, ◌<◌, ◌+◌, ◌-◌, ◌*◌, ℕ, zero, suc, ℤ, pos, List, [], ◌∷◌, ◌++◌, length, take, drop, refl, ap, ap₂, sym, ◌∙◌, arith, slice_index_or}
+use Rattle.std.proofs.Common.{◌≡◌, ◌<◌, ◌+◌, ◌-◌, ℕ, zero, suc, ℤ, List, [], ◌∷◌, length, take, drop, refl, ap, ap₂, sym, ◌∙◌, arith}
 use Rattle.exodus_mesh.specs.MeshValues.{rows_of}
 use Rattle.clip.specs.Columns.{triple_of}
 

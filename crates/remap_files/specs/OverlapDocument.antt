@@ -1,6 +1,6 @@
 -- The document of an overlap, and how long its file is. The whole form is our own.
-use Rattle.std.specs.Prelude.{ℕ, ◌+◌, ◌*◌, ◌==◌, ℤ, pos, List, [], ◌∷◌, length, map, All, if◌then◌else◌, slice_index_or, codes, ◌≡◌, FitsSigned}
-use Rattle.std.specs.List.{flat_map, sum_by}
+use Rattle.std.specs.Prelude.{ℕ, ◌+◌, ◌*◌, ◌==◌, ℤ, pos, List, [], ◌∷◌, length, All, if◌then◌else◌, codes, ◌≡◌, FitsSigned}
+use Rattle.std.specs.List.{sum_by}
 use Rattle.std.specs.Int.{w32}
 use Rattle.clip.specs.declared.pieces.Piece.{Piece}
 use Rattle.clip.specs.Columns.{source_column, target_column, ring_size_column, ring_plane_column, corner_column}

@@ -16,6 +16,17 @@ use smallvec::SmallVec;
 use std::alloc::{AllocError, Global};
 use vec_exact::Ints;
 
+// The places of the five variables in the list of their numbers.
+const SOURCE: usize = 0;
+
+const TARGET: usize = 1;
+
+const RING_SIZE: usize = 2;
+
+const RING_PLANE: usize = 3;
+
+const CORNER: usize = 4;
+
 // The numbers of one of the five variables, by its place among them.
 fn column<'a>(values: &'a [Ints], k: usize) -> &'a [i32]
     requires { k < length values.now }
@@ -108,10 +119,15 @@ fn is_good_row(vars: &OverlapVars, values: &[Ints], r: usize, begin: usize) -> b
     has_good_faces(
         vars.faces_a,
         vars.faces_b,
-        column(values, 0),
-        column(values, 1),
+        column(values, SOURCE),
+        column(values, TARGET),
         r,
-    ) && has_good_ring(column(values, 2), column(values, 3), r, begin)
+    ) && has_good_ring(
+        column(values, RING_SIZE),
+        column(values, RING_PLANE),
+        r,
+        begin,
+    )
 }
 
 // The length of the ring of row r.
@@ -120,7 +136,7 @@ fn ring_len(values: &[Ints], r: usize) -> usize
     requires row { r < length (columns_of values.now).ring_size }
     ensures { result ≡ ring_len (columns_of values.now).ring_size r }
 {
-    column(values, 2)[r].unsigned_abs() as usize
+    column(values, RING_SIZE)[r].unsigned_abs() as usize
 }
 
 // The piece of row r, whose ring begins at a place.
@@ -139,19 +155,18 @@ fn make_piece(
     ensures { IfOk result (λ p. p ≡ piece_at (columns_of values.now) r) }
 {
     let len = ring_len(values, r);
-    let (_, planes) = column(values, 3).split_at(begin);
+    let (_, planes) = column(values, RING_PLANE).split_at(begin);
     let (ring, _) = planes.split_at(len);
-    let (_, corners) = column(values, 4).split_at(3 * begin);
+    let (_, corners) = column(values, CORNER).split_at(3 * begin);
     Ok(Piece {
-        a: column(values, 0)[r].unsigned_abs(),
-        b: column(values, 1)[r].unsigned_abs(),
+        a: column(values, SOURCE)[r].unsigned_abs(),
+        b: column(values, TARGET)[r].unsigned_abs(),
         ring: make_ring(ring),
         corners: make_corners(alloc, len, corners)?,
     })
 }
 
 // The pieces of all rows, or the first row at fault.
-#[tactic(auto, using(crate::proofs::RowFaults::one_more_good, crate::proofs::RowFaults::next_begin, crate::proofs::GoodRows::row_ring))]
 fn make_pieces(alloc: Global, vars: &OverlapVars, values: &[Ints]) -> Result<Vec<Piece>, FileFault>
     requires lists { HasFiveLists vars.now values.now }
     requires count { vars.now.pieces ≤ 8388608 }
@@ -170,7 +185,7 @@ fn make_pieces(alloc: Global, vars: &OverlapVars, values: &[Ints]) -> Result<Vec
         pieces.push(make_piece(alloc, vars, values, r, begin)?)?;
         begin += ring_len(values, r);
     }
-    if begin < column(values, 3).len() {
+    if begin < column(values, RING_PLANE).len() {
         return Err(FileFault::Row(vars.pieces));
     }
     Ok(pieces)
