@@ -109,7 +109,7 @@ fn gathered<C: PieceList>(
     Ok(run)
 }
 
-// All blocks, drawn by the workers, as one.
+// All blocks, drawn by the workers, in the order of their numbers.
 fn drawn<R: Threads, C: PieceList + Send + Sync, G: Gate + Sync>(
     rt: &R,
     alloc: Global,
@@ -118,10 +118,11 @@ fn drawn<R: Threads, C: PieceList + Send + Sync, G: Gate + Sync>(
     index: &Index,
     workers: u32,
     gate: &G,
-) -> Result<Block<C>, NoMemory>
+) -> Result<Vec<Block<C>>, NoMemory>
     requires index { IsIndexOf index.now b.now }
     requires workers { (1 ≤ workers) × (workers ≤ 64) }
-    ensures { IfOk result (IsBlockOf C.holds a.now b.now (DoMeet a.now b.now)) }
+    ensures count { IfOk result (λ blocks. length blocks.items ≡ div_ceil (length a.now.faces) 64) }
+    ensures each { IfOk result (λ blocks. AllInPlace (IsNumberedBlock C.holds a.now b.now) blocks.items) }
 {
     let job = SourceBlocks {
         a,
@@ -130,8 +131,7 @@ fn drawn<R: Threads, C: PieceList + Send + Sync, G: Gate + Sync>(
         gate,
         list: PhantomData::<C>,
     };
-    let blocks = run_blocks(rt, alloc, &job, face_count(a).div_ceil(BLOCK_SIZE), workers)?;
-    gathered(alloc, a, b, blocks)
+    run_blocks(rt, alloc, &job, face_count(a).div_ceil(BLOCK_SIZE), workers)
 }
 
 // A list that keeps no piece, for blocks whose pieces are only counted.
@@ -204,22 +204,24 @@ fn are_many<R: Threads>(
 }
 
 // All blocks, drawn by the workers, as one. Where there are more candidates than an overlap may have
-// pieces, the pairs are counted first, so that no list is kept past the limit.
+// pieces, the pairs are counted first, so that no list is kept past the limit. The index is let go
+// before the pieces are gathered.
 pub fn shared_out<R: Threads, C: PieceList + Send + Sync, G: Gate + Sync>(
     rt: &R,
     alloc: Global,
     a: &Mesh,
     b: &Mesh,
-    index: &Index,
+    index: Index,
     workers: u32,
     gate: &G,
 ) -> Result<Block<C>, NoMemory>
-    requires index { IsIndexOf index.now b.now }
+    requires index { IsIndexOf index b.now }
     requires workers { (1 ≤ workers) × (workers ≤ 64) }
     ensures { IfOk result (IsBlockOf C.holds a.now b.now (DoMeet a.now b.now)) }
 {
-    if are_many(rt, alloc, a, index, workers)? {
-        let counted: Block<NoPieces> = drawn(rt, alloc, a, b, index, workers, &OpenGate)?;
+    if are_many(rt, alloc, a, &index, workers)? {
+        let blocks = drawn(rt, alloc, a, b, &index, workers, &OpenGate)?;
+        let counted: Block<NoPieces> = gathered(alloc, a, b, blocks)?;
         if counted.count > GREATEST_COUNT {
             return Ok(Block {
                 count: counted.count,
@@ -227,5 +229,7 @@ pub fn shared_out<R: Threads, C: PieceList + Send + Sync, G: Gate + Sync>(
             });
         }
     }
-    drawn(rt, alloc, a, b, index, workers, gate)
+    let blocks = drawn(rt, alloc, a, b, &index, workers, gate)?;
+    drop(index);
+    gathered(alloc, a, b, blocks)
 }
