@@ -3,9 +3,10 @@ ghost use Rattle.std.specs.Prelude.{◌≡◌, ◌<◌, ◌≤◌};
 
 use crate::meshes::mesh_of_equal_faces;
 use crate::runs::Run;
+use cell_index::{build, candidates};
 use clip::{Overlap, Piece, clip};
 use mesh_check::{Mesh, check, face_count};
-use overlap_run::{Gate, OpenGate, RunFault, overlap};
+use overlap_run::{Block, Gate, OpenGate, RunFault, clip_block, overlap};
 use std::alloc::Global;
 use std::marker::Brand;
 use std::process::Abort;
@@ -250,5 +251,51 @@ fn too_many_pieces_are_counted(rt: HostRuntime) -> Result<(), Fail> {
         b"tempest: too many pieces 8392609\n".as_slice()
     );
     assert_eq!(rt; row.files.get("o.g"), None);
+    Ok(())
+}
+
+// The block of all faces of `a`, with the counter of this blank.
+fn counted_block<L: Ledger>(
+    alloc: Global,
+    a: &Mesh,
+    b: &Mesh,
+    blank: Blank,
+) -> Result<Block, NoMemory>
+    requires name { blank.name ≡ L.name }
+    requires parts { blank.parts ≡ L.parts }
+    requires some { 0 < blank.parts }
+{
+    let mut steps = Steps::<L>::new(blank);
+    let index = build(alloc, b)?;
+    clip_block(alloc, a, b, &index, 1, face_count(a), &mut steps)
+}
+
+// How many pieces the block of all faces of `a` has.
+fn piece_count(alloc: Global, a: &Mesh, b: &Mesh) -> Result<usize, NoMemory> {
+    let block = counted_block::<Brand>(alloc, a, b, Blank::new(1))?;
+    Ok(block.pieces.items.len())
+}
+
+// How many candidates all faces of `a` have, and so how many steps their block takes.
+fn candidate_count(alloc: Global, a: &Mesh, b: &Mesh) -> Result<usize, NoMemory> {
+    let index = build(alloc, b)?;
+    let mut total = 0usize;
+    for i in 0..face_count(a) {
+        total = total.saturating_add(candidates(alloc, &index, a, i + 1)?.len());
+    }
+    Ok(total)
+}
+
+#[test]
+fn a_block_has_the_pieces_of_its_candidates(rt: HostRuntime) -> Result<(), Fail> {
+    let alloc = rt.alloc();
+    let cube = accepted(&rt, alloc, gen_cs::make(alloc, 1));
+    assert_eq!(rt; piece_count(alloc, &cube, &cube)?, 6);
+    assert_eq!(rt; candidate_count(alloc, &cube, &cube)?, 6);
+    let Ok(octants) = gen_rll::make(alloc, 4, 2) else {
+        panic!(rt; "a fault");
+    };
+    assert_eq!(rt; piece_count(alloc, &octants, &cube)?, 24);
+    assert_eq!(rt; candidate_count(alloc, &octants, &cube)?, 24);
     Ok(())
 }
