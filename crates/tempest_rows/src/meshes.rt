@@ -67,7 +67,7 @@ fn push_face(file: &mut Vec<u8>, face: &[i32]) -> Result<(), AllocError> {
 }
 
 /// The mesh file of these nodes and of so many faces with the same node numbers.
-pub fn mesh_of_equal_faces(
+pub(crate) fn mesh_of_equal_faces(
     alloc: Global,
     nodes: &[[i32; 3]],
     face: &[i32],
