@@ -49,9 +49,10 @@ module _ {C : Type 0} (Holds : C → List Piece → Type 0) (a b : RawMesh) wher
       block_same P Q grows (λ p x. elim (only p x) [ inl y ↦ y | inr e ↦ absurd (apart.0 e.1) ])
       new (subst (IsBlockOf Holds a b P) (sym apart.1) h)
 
-  -- a block more, whose pairs come after all the others
-  pub block_join : (P Q : FacePair → Type 0) → ((p q : FacePair) → P p → Q q → IsEarlier p q) → (old more new : Block C) → IsBlockOf Holds a b P old → IsBlockOf Holds a b Q more
-      → TakesBlock Holds old more new → IsBlockOf Holds a b (λ p. P p ⊎ Q p) new
+-- a block more, whose pairs come after all the others
+module _ {C D : Type 0} (Holds : C → List Piece → Type 0) (HoldsMore : D → List Piece → Type 0) (a b : RawMesh) where
+  pub block_join : (P Q : FacePair → Type 0) → ((p q : FacePair) → P p → Q q → IsEarlier p q) → (old : Block C) (more : Block D) (new : Block C) → IsBlockOf Holds a b P old → IsBlockOf HoldsMore a b Q more
+      → TakesBlock Holds HoldsMore old more new → IsBlockOf Holds a b (λ p. P p ⊎ Q p) new
   block_join P Q before old more new h k takes = record {
     count = count_join P Q before old.count more.count new.count takes.count h.count k.count;
     listed = λ l.

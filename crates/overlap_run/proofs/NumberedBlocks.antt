@@ -54,24 +54,24 @@ module _ {C : Type 0} (Holds : C → List Piece → Type 0) (a b : RawMesh) wher
   pub blocks_none : (run : Block C) → run.count ≡ 0 → Holds run.pieces [] → IsBlockOf Holds a b (DoMeetWithin a b 1 (ends_at a 0)) run
   blocks_none run e f = block_none Holds a b (DoMeetWithin a b 1 (ends_at a 0)) (no_faces a b 1 (ends_at a 0) (omega arith)) run e f
 
-  -- one block more
-  pub blocks_more : (s : ℕ) → 64 * s < length a.faces → (old more new : Block C) → IsBlockOf Holds a b (DoMeetWithin a b 1 (ends_at a s)) old → IsNumberedBlock Holds a b s more
-      → TakesBlock Holds old more new → IsBlockOf Holds a b (DoMeetWithin a b 1 (ends_at a (s + 1))) new
-  blocks_more s l old more new h k takes =
-      let next = subst (λ (n : ℕ). IsBlockOf Holds a b (DoMeetWithin a b (n + 1) (ends_at a (s + 1))) more) (sym (before a s l)) k.block_of in
-      run_more Holds a b (ends_at a s) (ends_at a (s + 1)) (omega (arith, before a s l, later a s l)) old more new h next takes
-
-  pub few_more : (s : ℕ) → 64 * s < length a.faces → (old more new : Block C) → old.count ≤ clipped a b s → IsNumberedBlock Holds a b s more → new.count ≡ old.count + more.count
-      → new.count ≤ clipped a b (s + 1)
-  few_more s l old more new h k e = omega (arith, h, k.few, e, clipped_more a b s l)
-
-  pub room_for : (s : ℕ) → 64 * s < length a.faces → (old more : Block C) → length a.faces ≤ 1048576 → length b.faces ≤ 1048576 → old.count ≤ clipped a b s → IsNumberedBlock Holds a b s more
-      → old.count + more.count < 2 ^ 64
-  room_for s l old more m n h k = omega (arith, h, k.few, clipped_more a b s l, clipped_fits a b (s + 1) m n)
-
   -- all blocks
   pub blocks_end : (s blocks : ℕ) → blocks ≤ s → blocks ≡ div_ceil (length a.faces) 64 → (run : Block C) → IsBlockOf Holds a b (DoMeetWithin a b 1 (ends_at a s)) run → IsBlockOf Holds a b (DoMeet a b) run
   blocks_end s blocks l e run h = whole_block Holds a b run (subst (λ (n : ℕ). IsBlockOf Holds a b (DoMeetWithin a b 1 n) run) (ends_at_last a s blocks l e) h)
+
+-- one block more
+module _ {C D : Type 0} (Holds : C → List Piece → Type 0) (HoldsMore : D → List Piece → Type 0) (a b : RawMesh) (s : ℕ) (face : 64 * s < length a.faces) where
+  pub blocks_more : (old : Block C) (more : Block D) (new : Block C) → IsBlockOf Holds a b (DoMeetWithin a b 1 (ends_at a s)) old → IsNumberedBlock HoldsMore a b s more
+      → TakesBlock Holds HoldsMore old more new → IsBlockOf Holds a b (DoMeetWithin a b 1 (ends_at a (s + 1))) new
+  blocks_more old more new h k takes =
+      let next = subst (λ (n : ℕ). IsBlockOf HoldsMore a b (DoMeetWithin a b (n + 1) (ends_at a (s + 1))) more) (sym (before a s face)) k.block_of in
+      run_more Holds HoldsMore a b (ends_at a s) (ends_at a (s + 1)) (omega (arith, before a s face, later a s face)) old more new h next takes
+
+module _ {D : Type 0} (HoldsMore : D → List Piece → Type 0) (a b : RawMesh) (s : ℕ) (face : 64 * s < length a.faces) where
+  pub few_more : (count next : ℕ) (more : Block D) → count ≤ clipped a b s → IsNumberedBlock HoldsMore a b s more → next ≡ count + more.count → next ≤ clipped a b (s + 1)
+  few_more count next more h k e = omega (arith, h, k.few, e, clipped_more a b s face)
+
+  pub room_for : (count : ℕ) (more : Block D) → length a.faces ≤ 1048576 → length b.faces ≤ 1048576 → count ≤ clipped a b s → IsNumberedBlock HoldsMore a b s more → count + more.count < 2 ^ 64
+  room_for count more m n h k = omega (arith, h, k.few, clipped_more a b s face, clipped_fits a b (s + 1) m n)
 
 -- the items from the first on, and from the second on
 pub first_in_place : {X : Type 0} (P : ℕ → X → Type 0) (s : ℕ) (left rest : List X) (x : X) → left ≡ x ∷ rest → AllInPlace (λ t. P (s + t)) left → P s x

@@ -35,15 +35,16 @@ module _ (a b : RawMesh) where
   pub any_face : (p : FacePair) → DoMeetWithin a b 1 (length a.faces) p → DoMeet a b p
   any_face p h = h.meets
 
-module _ {C : Type 0} (Holds : C → List Piece → Type 0) (a b : RawMesh) where
+module _ {C D : Type 0} (Holds : C → List Piece → Type 0) (HoldsMore : D → List Piece → Type 0) (a b : RawMesh) where
   -- the blocks of the first n faces, and the block of the next ones, as far as face m
-  pub run_more : (n m : ℕ) → n ≤ m → (old more new : Block C) → IsBlockOf Holds a b (DoMeetWithin a b 1 n) old → IsBlockOf Holds a b (DoMeetWithin a b (n + 1) m) more
-      → TakesBlock Holds old more new → IsBlockOf Holds a b (DoMeetWithin a b 1 m) new
+  pub run_more : (n m : ℕ) → n ≤ m → (old : Block C) (more : Block D) (new : Block C) → IsBlockOf Holds a b (DoMeetWithin a b 1 n) old → IsBlockOf HoldsMore a b (DoMeetWithin a b (n + 1) m) more
+      → TakesBlock Holds HoldsMore old more new → IsBlockOf Holds a b (DoMeetWithin a b 1 m) new
   run_more n m l old more new h k takes =
       let P : FacePair → Type 0 = DoMeetWithin a b 1 n in
       let Q : FacePair → Type 0 = DoMeetWithin a b (n + 1) m in
-      block_same Holds a b (λ p. P p ⊎ Q p) (DoMeetWithin a b 1 m) (together a b n m l) (divided a b n m) new (block_join Holds a b P Q (apart a b n m) old more new h k takes)
+      block_same Holds a b (λ p. P p ⊎ Q p) (DoMeetWithin a b 1 m) (together a b n m l) (divided a b n m) new (block_join Holds HoldsMore a b P Q (apart a b n m) old more new h k takes)
 
+module _ {C : Type 0} (Holds : C → List Piece → Type 0) (a b : RawMesh) where
   -- the block of all faces has all pairs that meet
   pub whole_block : (block : Block C) → IsBlockOf Holds a b (DoMeetWithin a b 1 (length a.faces)) block → IsBlockOf Holds a b (DoMeet a b) block
   whole_block block h = block_same Holds a b (DoMeetWithin a b 1 (length a.faces)) (DoMeet a b) (any_face a b) (all_faces a b) block h

@@ -43,10 +43,10 @@ pub record AddsPiece {C : Type 0} (Holds : C → List Piece → Type 0) (a b : R
 abbrev pub TakesPair : {C : Type 0} → (C → List Piece → Type 0) → RawMesh → RawMesh → FacePair → Block C → Block C → Type 0
 TakesPair Holds a b pair old new = (DoMeet a b pair × AddsPiece Holds a b pair old new) ⊎ ((DoMeet a b pair → ⊥) × (new ≡ old))
 
--- the block has the pairs of another one too, and its pieces behind its own where it lists pieces
-pub record TakesBlock {C : Type 0} (Holds : C → List Piece → Type 0) (old more new : Block C) : Type 0 where
+-- the block has the pairs of another one too, and its pieces behind its own where it lists pieces; the other one may list them in another form
+pub record TakesBlock {C D : Type 0} (Holds : C → List Piece → Type 0) (HoldsMore : D → List Piece → Type 0) (old : Block C) (more : Block D) (new : Block C) : Type 0 where
   pub count : new.count ≡ old.count + more.count
-  pub listed : new.count ≤ 8388608 → (pieces others : List Piece) → Holds old.pieces pieces → Holds more.pieces others → Holds new.pieces (pieces ++ others)
+  pub listed : new.count ≤ 8388608 → (pieces others : List Piece) → Holds old.pieces pieces → HoldsMore more.pieces others → Holds new.pieces (pieces ++ others)
   pub dropped : 8388608 < new.count → Holds new.pieces []
 
 -- the target faces that are clipped with face i of a

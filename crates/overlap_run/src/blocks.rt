@@ -99,7 +99,7 @@ pub fn take_block<C: PieceList>(
     block: Block<C>,
 ) -> Result<(), NoMemory>
     requires room { run.old.count + block.count < 2 ^ 64 }
-    ensures { OnOk result (TakesBlock C.holds run.old block run.new) }
+    ensures { OnOk result (TakesBlock C.holds C.holds run.old block run.new) }
 {
     run.count += block.count;
     if run.count > GREATEST_COUNT {

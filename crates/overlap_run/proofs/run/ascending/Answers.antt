@@ -33,7 +33,7 @@ take_block-requires g c =
     let s = c.loop-s.s in
     let face = has_face a s c.div_ceil-s-end.result c.loop-s-test.true (c.div_ceil-s-end.ensures ∙ ap (λ n. div_ceil n 64) c.face_count-faces.ensures.count) in
     record {
-      room = room_for g.C.PieceList.holds a b s face c.loop-s.run c.in_ok-block.block c.face_count-faces.ensures.accepted.counts.face_limit c.face_count-target_faces.ensures.accepted.counts.face_limit
+      room = room_for g.C.PieceList.holds a b s face c.loop-s.run.count c.in_ok-block.block c.face_count-faces.ensures.accepted.counts.face_limit c.face_count-target_faces.ensures.accepted.counts.face_limit
           c.loop-s.invariant.few c.in_ok-block.ensures.block;
     }
 
@@ -53,8 +53,8 @@ loop-s-preserved g c =
     let face = has_face a s c.div_ceil-s-end.result c.loop-s-test.true (c.div_ceil-s-end.ensures ∙ ap (λ n. div_ceil n 64) c.face_count-faces.ensures.count) in
     let takes = c.in_ok-take_block.ensures in
     record {
-      run = blocks_more g.C.PieceList.holds a b s face c.loop-s.run c.in_ok-block.block c.take_block.new.run c.loop-s.invariant.run c.in_ok-block.ensures.block takes;
-      few = few_more g.C.PieceList.holds a b s face c.loop-s.run c.in_ok-block.block c.take_block.new.run c.loop-s.invariant.few c.in_ok-block.ensures.block takes.count;
+      run = blocks_more g.C.PieceList.holds g.C.PieceList.holds a b s face c.loop-s.run c.in_ok-block.block c.take_block.new.run c.loop-s.invariant.run c.in_ok-block.ensures.block takes;
+      few = few_more g.C.PieceList.holds a b s face c.loop-s.run.count c.take_block.new.run.count c.in_ok-block.block c.loop-s.invariant.few c.in_ok-block.ensures.block takes.count;
       ticks = omega (arith, c.loop-s.invariant.ticks, c.in_ok-block.ensures.ticks, clipped_more a b s face);
     }
 
