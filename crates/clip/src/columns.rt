@@ -13,7 +13,7 @@ use vec_exact::NoMemory;
 /// A list of pieces, in whatever form it keeps them. Pieces join at its end.
 pub trait PieceList: Sized + Drop {
     /// A place in a list, where a piece begins or ends.
-    type Place: Copy + Send;
+    type Place: Copy;
 
     /// It holds these pieces, in this order, and no other.
     ghost holds: { Self → List OnePiece → Type 0 };
