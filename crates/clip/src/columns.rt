@@ -1,18 +1,25 @@
 // Pieces as columns of numbers, as an overlap file has them.
-ghost use Rattle.std.specs.Prelude.{◌≡◌, ◌++◌, ◌∷◌, [], ℕ, List, OnOk, All, map, flat_map, pos, length};
+ghost use Rattle.std.specs.Prelude.{◌≡◌, ◌≤◌, ◌++◌, ◌∷◌, [], ℕ, List, IfOk, OnOk, All, map, flat_map, pos, length, slice_range};
 ghost use Rattle.clip.specs.declared.pieces.Piece.{Piece as OnePiece};
 ghost use Rattle.clip.specs.Overlaps.{IsRingNumber, HasSmallNumbers};
 ghost use Rattle.clip.specs.Columns.{AreColumnsOf, ring_numbers, triple_of, corner_numbers};
 
 use crate::lists::Ring;
 use crate::pieces::{Corners, Piece, Pieces};
+use smallvec::SmallVec;
 use std::alloc::Global;
 use vec_exact::NoMemory;
 
 /// A list of pieces, in whatever form it keeps them. Pieces join at its end.
 pub trait PieceList: Sized + Drop {
+    /// A place in a list, where a piece begins or ends.
+    type Place: Copy;
+
     /// It holds these pieces, in this order, and no other.
     ghost holds: { Self → List OnePiece → Type 0 };
+
+    /// The place stands behind these pieces, in each list that begins with them.
+    ghost is_behind: { List OnePiece → Self.Place → Type 0 };
 
     /// The list without a piece.
     fn none(alloc: Global) -> Self
@@ -27,13 +34,63 @@ pub trait PieceList: Sized + Drop {
     fn append(&mut self, other: Self) -> Result<(), NoMemory>
         ensures { (pieces others : List OnePiece) → holds self.old pieces → holds other others
             → OnOk result (holds self.new (pieces ++ others)) };
+
+    /// The place behind the last piece.
+    fn end(&self) -> Self::Place
+        ensures { (pieces : List OnePiece) → holds self.now pieces → is_behind pieces result };
+
+    /// Puts the pieces between two places of another list at the end.
+    fn append_between(
+        &mut self,
+        alloc: Global,
+        other: &Self,
+        from: Self::Place,
+        to: Self::Place,
+    ) -> Result<(), NoMemory>
+        ensures { (pieces before between after : List OnePiece) → holds self.old pieces
+            → holds other.now (before ++ (between ++ after)) → is_behind before from → is_behind (before ++ between) to
+            → OnOk result (holds self.new (pieces ++ between)) };
+}
+
+// The elements from place `from` up to place `to`, or none where there is no such part.
+fn part<T>(elements: &[T], from: usize, to: usize) -> &[T]
+    ensures within { from ≤ to → to ≤ length elements.now → result.now ≡ slice_range elements.now from to }
+    ensures outside { ¬ ((from ≤ to) × (to ≤ length elements.now)) → result.now ≡ [] }
+{
+    elements.get(from..to).unwrap_or(&[])
+}
+
+fn copy_of(alloc: Global, piece: &Piece) -> Result<Piece, NoMemory>
+    ensures { IfOk result (λ copied. copied ≡ piece.now) }
+{
+    Ok(Piece {
+        a: piece.a,
+        b: piece.b,
+        ring: piece.ring.clone()?,
+        corners: Corners {
+            items: SmallVec::from_slice(alloc, piece.corners.items.as_slice())?,
+        },
+    })
+}
+
+fn push_copies(list: &mut Vec<Piece>, alloc: Global, pieces: &[Piece]) -> Result<(), NoMemory>
+    ensures { OnOk result (list.new.items ≡ list.old.items ++ pieces.now) }
+{
+    for piece in pieces {
+        list.push(copy_of(alloc, piece)?)?;
+    }
+    Ok(())
 }
 
 impl PieceList for Pieces {
-    ghost use Rattle.std.specs.Prelude.{◌≡◌, List};
+    ghost use Rattle.std.specs.Prelude.{◌≡◌, List, length};
     ghost use Rattle.clip.specs.declared.pieces.Piece.{Piece as OnePiece};
 
+    type Place = usize;
+
     ghost holds = { λ list pieces. list ≡ pieces };
+
+    ghost is_behind = { λ pieces place. place ≡ length pieces };
 
     fn none(alloc: Global) -> Self {
         Pieces {
@@ -51,6 +108,20 @@ impl PieceList for Pieces {
         self.items.append(&mut items)?;
         Ok(())
     }
+
+    fn end(&self) -> usize {
+        self.items.len()
+    }
+
+    fn append_between(
+        &mut self,
+        alloc: Global,
+        other: &Self,
+        from: usize,
+        to: usize,
+    ) -> Result<(), NoMemory> {
+        push_copies(&mut self.items, alloc, part(&other.items, from, to))
+    }
 }
 
 /// The numbers of pieces in columns, each column in the order of the pieces.
@@ -66,6 +137,17 @@ pub struct Columns {
     pub ring_planes: Vec<i8>,
     /// The three components of each corner.
     pub corners: Vec<i32>,
+}
+
+/// A place in columns, by what stands before it.
+#[derive(Clone, Copy)]
+pub struct PlaceInColumns {
+    /// How many pieces.
+    pub pieces: usize,
+    /// How many numbers of rings.
+    pub ring_numbers: usize,
+    /// How many components of corners.
+    pub corner_components: usize,
 }
 
 fn put_ring(numbers: &mut Vec<i8>, ring: &Ring) -> Result<(), NoMemory>
@@ -97,9 +179,13 @@ fn put_corners(numbers: &mut Vec<i32>, corners: &Corners) -> Result<(), NoMemory
 }
 
 impl PieceList for Columns {
-    ghost use Rattle.clip.specs.Columns.{AreColumnsOf};
+    ghost use Rattle.clip.specs.Columns.{AreColumnsOf, IsBehind};
+
+    type Place = PlaceInColumns;
 
     ghost holds = { λ columns pieces. AreColumnsOf pieces columns };
+
+    ghost is_behind = { λ pieces place. IsBehind pieces place };
 
     fn none(alloc: Global) -> Self {
         Columns {
@@ -125,6 +211,40 @@ impl PieceList for Columns {
         self.ring_sizes.extend_from_slice(&other.ring_sizes)?;
         self.ring_planes.extend_from_slice(&other.ring_planes)?;
         self.corners.extend_from_slice(&other.corners)?;
+        Ok(())
+    }
+
+    fn end(&self) -> PlaceInColumns {
+        PlaceInColumns {
+            pieces: self.sources.len(),
+            ring_numbers: self.ring_planes.len(),
+            corner_components: self.corners.len(),
+        }
+    }
+
+    fn append_between(
+        &mut self,
+        _alloc: Global,
+        other: &Self,
+        from: PlaceInColumns,
+        to: PlaceInColumns,
+    ) -> Result<(), NoMemory> {
+        self.sources
+            .extend_from_slice(part(&other.sources, from.pieces, to.pieces))?;
+        self.targets
+            .extend_from_slice(part(&other.targets, from.pieces, to.pieces))?;
+        self.ring_sizes
+            .extend_from_slice(part(&other.ring_sizes, from.pieces, to.pieces))?;
+        self.ring_planes.extend_from_slice(part(
+            &other.ring_planes,
+            from.ring_numbers,
+            to.ring_numbers,
+        ))?;
+        self.corners.extend_from_slice(part(
+            &other.corners,
+            from.corner_components,
+            to.corner_components,
+        ))?;
         Ok(())
     }
 }
