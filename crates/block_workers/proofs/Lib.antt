@@ -1,2 +1,4 @@
+pub mod AtPart
 mod JoinedShares
+mod Placing
 mod Slots

@@ -1,3 +1,4 @@
 pub mod FinishedBlocks
+pub mod InParts
 pub mod InPlace
 pub mod Shares

@@ -1,8 +1,8 @@
-use Rattle.std.proofs.Common.{◌-◌, ◌*◌}
+use Rattle.std.proofs.Common.{◌+◌, ◌*◌}
 use Rattle.block_workers.proofs.run.+fn-spread-join+arg3+spread.Given as goal
 
 abbrev pub decreases-join+arg3 : goal.decreases-join+arg3
-decreases-join+arg3 g l = 2 * l.workers - 1
+decreases-join+arg3 g l = 2 * l.others + 1
 
 abbrev pub decreases-spread : goal.decreases-spread
 decreases-spread g l = 2 * l.workers

@@ -1,6 +1,7 @@
 use Rattle.std.proofs.Common.{◌≡◌, ◌≤◌, ◌-◌, length, All, None}
 use Rattle.block_claims.specs.Seen.{IsTicketOf}
 use Rattle.block_workers.specs.FinishedBlocks.{numbers, IsRight}
+use Rattle.block_workers.specs.InParts.{IsPutIn}
 use Rattle.block_workers.proofs.worker.work.Given as goal
 
 abbrev pub invariant-loop-block : goal.invariant-loop-block
@@ -11,7 +12,8 @@ invariant-loop-block g l = record {
   made : l.ticket.view.made ≡ l.fn.ticket.view.made;
   back : l.ticket.view.back ≡ l.fn.ticket.view.back;
   mine : numbers l.finished.items ≡ l.ticket.view.mine;
-  right : All (IsRight l.claims.blocks (g.J.BlockJob.gives l.job)) l.finished.items;
+  part : g.J.BlockJob.is_part l.job l.part;
+  right : All (IsRight l.claims.blocks (IsPutIn (g.J.BlockJob.gives l.job) l.number l.part)) l.finished.items;
   few : length l.ticket.view.mine ≤ l.claims.blocks;
 }
 
