@@ -6,6 +6,7 @@ use Rattle.cell_index.specs.CandidateList.{candidates_of}
 use Rattle.clip.specs.declared.pieces.Piece.{Piece}
 use Rattle.clip.specs.Overlaps.{IsSoundPiece}
 use Rattle.overlap_run.specs.declared.blocks.Block.{Block}
+use Rattle.overlap_run.specs.declared.blocks.Stretch.{Stretch}
 use Rattle.overlap_run.specs.Pairs.{FacePair, DoMeet, AreExactly, IsCountOf}
 use Rattle.overlap_run.specs.Whole.{pair_of, IsPieceOf}
 
@@ -61,3 +62,11 @@ clip_count a b first last = sum_by (λ (i : ℕ). length (targets_of a b i)) (ra
 pub record IsNumberedBlock {C : Type 0} (Holds : C → List Piece → Type 0) (a b : RawMesh) (s : ℕ) (block : Block C) : Type 0 where
   pub block_of : IsBlockOf Holds a b (DoMeetWithin a b (64 * s + 1) (min (length a.faces) (64 * (s + 1)))) block
   pub few : block.count ≤ clip_count a b (64 * s + 1) (min (length a.faces) (64 * (s + 1)))
+
+-- The pieces stand in the list between two places, behind some pieces and before others. Holds says which pieces a list holds, and IsBehind which place stands behind which pieces.
+abbrev pub StandsIn : {C Place : Type 0} → (C → List Piece → Type 0) → (List Piece → Place → Type 0) → C → Stretch Place → List Piece → Type 0
+StandsIn Holds IsBehind list stretch pieces = (before after : List Piece) × Holds list (before ++ (pieces ++ after)) × IsBehind before stretch.from × IsBehind (before ++ pieces) stretch.to
+
+-- there are pieces that the list holds
+abbrev pub HoldsSome : {C : Type 0} → (C → List Piece → Type 0) → C → Type 0
+HoldsSome Holds list = (pieces : List Piece) × Holds list pieces

@@ -1,7 +1,10 @@
 // A block of source faces: its pieces, or how many there are.
-ghost use Rattle.std.specs.Prelude.{◌≡◌, ◌+◌, ◌*◌, ◌<◌, ◌≤◌, ◌^◌, IfOk, OnOk, length, min};
+ghost use Rattle.std.specs.Prelude.{◌≡◌, ℕ, ◌+◌, ◌*◌, ◌<◌, ◌≤◌, ◌^◌, List, IfOk, OnOk, length, min};
+ghost use Rattle.vec_exact.specs.declared.RawMesh.{RawMesh};
 ghost use Rattle.cell_index.specs.IndexOf.{IsIndexOf};
-ghost use Rattle.overlap_run.specs.Parts.{IsBlockOf, IsNumberedBlock, TakesBlock, DoMeetWithin, clip_count};
+ghost use Rattle.clip.specs.declared.pieces.Piece.{Piece};
+ghost use Rattle.overlap_run.specs.declared.blocks.Stretch.{Stretch};
+ghost use Rattle.overlap_run.specs.Parts.{IsBlockOf, IsNumberedBlock, TakesBlock, StandsIn, HoldsSome, DoMeetWithin, clip_count};
 
 use crate::Gate;
 use crate::faces::clip_face;
@@ -66,6 +69,13 @@ pub fn clip_block<C: PieceList, L: Ledger>(
     Ok(block)
 }
 
+// Where some pieces of a list stand: from one place to another.
+#[derive(Clone, Copy)]
+pub struct Stretch<P> {
+    pub from: P,
+    pub to: P,
+}
+
 // Block s, between the calls of the gate.
 pub fn numbered_block<C: PieceList, G: Gate, L: Ledger>(
     alloc: Global,
@@ -107,5 +117,47 @@ pub fn take_block<C: PieceList>(
         return Ok(());
     }
     run.pieces.append(block.pieces)?;
+    Ok(())
+}
+
+// Puts the pieces of a block at the end of a list. The answer is the block with where they stand
+// there.
+pub fn put_block<C: PieceList>(
+    list: &mut C,
+    block: Block<C>,
+) -> Result<Block<Stretch<C::Place>>, NoMemory>
+    requires list { HoldsSome C.holds list.old }
+    requires pieces { HoldsSome C.holds block.pieces }
+    ensures block { IfOk result (λ put. (a b : RawMesh) → (s : ℕ) → IsNumberedBlock C.holds a b s block → IsNumberedBlock (StandsIn C.holds C.is_behind list.new) a b s put) }
+    ensures kept { OnOk result ((stretch : Stretch C.Place) (pieces : List Piece) → StandsIn C.holds C.is_behind list.old stretch pieces → StandsIn C.holds C.is_behind list.new stretch pieces) }
+    ensures list { OnOk result (HoldsSome C.holds list.new) }
+{
+    let from = list.end();
+    list.append(block.pieces)?;
+    let to = list.end();
+    Ok(Block {
+        count: block.count,
+        pieces: Stretch { from, to },
+    })
+}
+
+// Puts one block more behind the blocks so far, whose pieces stand in another list. Past the limit
+// all pieces are dropped, and the counts go on.
+pub fn take_stretch<C: PieceList>(
+    alloc: Global,
+    run: &mut Block<C>,
+    list: &C,
+    block: Block<Stretch<C::Place>>,
+) -> Result<(), NoMemory>
+    requires room { run.old.count + block.count < 2 ^ 64 }
+    ensures { OnOk result (TakesBlock C.holds (StandsIn C.holds C.is_behind list.now) run.old block run.new) }
+{
+    run.count += block.count;
+    if run.count > GREATEST_COUNT {
+        run.pieces = C::none(alloc);
+        return Ok(());
+    }
+    let Stretch { from, to } = block.pieces;
+    run.pieces.append_between(alloc, list, from, to)?;
     Ok(())
 }

@@ -2,6 +2,7 @@
 #![tactic(auto)]
 
 mod blocks;
+mod counting;
 mod faces;
 mod faults;
 mod gates;
