@@ -1,5 +1,5 @@
 -- Faces that the plane of an edge keeps apart.
-use Rattle.std.proofs.Common.{◌≡◌, ℕ, ◌<◌, ℤ, pos, negsuc, ◌*ℤ◌, ◌≤ℤ◌, ◌<ℤ◌, List, length, ◌∙◌, ap, arith}
+use Rattle.std.proofs.Common.{◌≡◌, ℤ, pos, negsuc, ◌*ℤ◌, ◌≤ℤ◌, ◌<ℤ◌, List, length, ◌∙◌, ap, arith}
 use Rattle.std.proofs.lemmas.Int.{ints}
 use Rattle.vec_exact.specs.declared.Vec3.{Vec3}
 use Rattle.vec_exact.specs.Vector.{inner, scaled}
@@ -9,6 +9,7 @@ use Rattle.vec_exact.proofs.Whole.{neg_times, one_times}
 use Rattle.vec_exact.proofs.Identities.{inner_turned, inner_scaled}
 use Rattle.vec_exact.proofs.Accepted.{accepted_convex}
 use Rattle.cone_laws.specs.Inside.{Meets}
+use Rattle.clip.specs.Apart.{KeepsOff}
 use Rattle.cone_laws.proofs.LinearForms.{nonneg_in_closure}
 
 -- the side on the turned plane
@@ -25,8 +26,11 @@ weaker : {z : ℤ} → pos 0 <ℤ z → pos 0 ≤ℤ z
 weaker {z} h = omega (arith, ints)
 
 -- where no node of g is positive on an edge of f, no direction is inside both
-pub apart : (f g : List Vec3) (t : ℕ) → IsAcceptedFace g → t < length f → ((s : ℕ) → s < length g → inner (face_plane f t) (vector_at g s) ≤ℤ pos 0) → ¬ Meets f g
-apart f g t b l h m =
+pub apart : (f g : List Vec3) → IsAcceptedFace g → KeepsOff f g → ¬ Meets f g
+apart f g b (t, l, h) m =
     let p = face_plane f t in
     not_both p m.0 (m.1 t l)
     (nonneg_in_closure (length g) (vector_at g) (scaled (negsuc 0) p) m.0 (accepted_convex g b) (λ s ls. turned_nonneg p (vector_at g s) (h s ls)) (λ s ls. weaker (m.2 s ls)))
+
+pub meets_turned : (f g : List Vec3) → Meets f g → Meets g f
+meets_turned f g m = (m.0, m.2, m.1)

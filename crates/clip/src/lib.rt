@@ -18,3 +18,4 @@ pub use overlap::Overlap;
 pub use pairs::{clip, is_ring, planes};
 pub use pieces::{Corners, Piece, Pieces};
 pub use rings::{cut, start};
+pub use separation::are_kept_apart;

@@ -10,7 +10,7 @@ ghost use Rattle.clip.specs.Planes.{HasInside, EachIs37, NoneIsZero, AreEdgesOf,
 
 use crate::lists::{PlaneList, Ring};
 use crate::rings::{cut, start};
-use crate::separation::keeps_apart;
+use crate::separation::are_kept_apart;
 use mesh_check::{Mesh, edge_count, plane};
 use std::sync::ledger::Ledger;
 use vec_exact::Steps;
@@ -72,7 +72,7 @@ fn ring_of_pair(a: &Mesh, i: u32, b: &Mesh, j: u32) -> Option<Ring>
     ensures source { IsAcceptedFace (corners_of a.now i) }
     ensures target { IsAcceptedFace (corners_of b.now j) }
 {
-    if keeps_apart(a, i, b, j) || keeps_apart(b, j, a, i) {
+    if are_kept_apart(a, i, b, j) {
         return None;
     }
     let planes = planes(a, i, b, j);

@@ -1,12 +1,11 @@
 // Faces that the plane of an edge keeps apart: found from the nodes, without any clipping.
-ghost use Rattle.std.specs.Prelude.{◌≡◌, ◌<◌, ℕ, pos, ◌≤ℤ◌, length, IsTrue};
-ghost use Rattle.vec_exact.specs.Vector.{inner};
+ghost use Rattle.std.specs.Prelude.{◌≡◌, ◌↔◌, length, IsTrue};
 ghost use Rattle.vec_exact.specs.Size.{Is37};
-ghost use Rattle.vec_exact.specs.Cycle.{vector_at};
 ghost use Rattle.vec_exact.specs.Face.{IsAcceptedFace};
 ghost use Rattle.cone_laws.specs.Inside.{Meets};
 ghost use Rattle.mesh_check.specs.Mesh.{face_of, corners_of};
 ghost use Rattle.clip.specs.Planes.{IsFaceNumber};
+ghost use Rattle.clip.specs.Apart.{IsBeyond, KeepsOff, AreKeptApart};
 
 use mesh_check::{Mesh, edge_count, node, plane};
 use vec_exact::{Vec3, dot, vector};
@@ -16,8 +15,7 @@ fn is_beyond(plane: Vec3, mesh: &Mesh, face: u32, count: u32) -> bool
     requires size { Is37 plane }
     requires face { IsFaceNumber mesh.now face }
     requires count { count ≡ length (face_of mesh.now face) }
-    ensures { IsTrue result → (t : ℕ) → t < length (corners_of mesh.now face)
-        → inner plane (vector_at (corners_of mesh.now face) t) ≤ℤ pos 0 }
+    ensures { IsTrue result ↔ IsBeyond plane (corners_of mesh.now face) }
 {
     for t in 0..count {
         if dot(plane, vector(node(mesh, face, t + 1))) > 0 {
@@ -27,12 +25,11 @@ fn is_beyond(plane: Vec3, mesh: &Mesh, face: u32, count: u32) -> bool
     true
 }
 
-// Whether some edge of face i of `a` has no node of face j of `b` on its positive side. Then the two
-// faces have no direction inside both.
-pub fn keeps_apart(a: &Mesh, i: u32, b: &Mesh, j: u32) -> bool
+// Whether some edge of face i of `a` has no node of face j of `b` on its positive side.
+fn keeps_off(a: &Mesh, i: u32, b: &Mesh, j: u32) -> bool
     requires source { IsFaceNumber a.now i }
     requires target { IsFaceNumber b.now j }
-    ensures apart { IsTrue result → ¬ Meets (corners_of a.now i) (corners_of b.now j) }
+    ensures exact { IsTrue result ↔ KeepsOff (corners_of a.now i) (corners_of b.now j) }
     ensures source { IsAcceptedFace (corners_of a.now i) }
     ensures target { IsAcceptedFace (corners_of b.now j) }
 {
@@ -43,4 +40,18 @@ pub fn keeps_apart(a: &Mesh, i: u32, b: &Mesh, j: u32) -> bool
         }
     }
     false
+}
+
+/// Whether some edge of one of the two faces has no node of the other face on its positive side.
+/// Then no direction is inside both. The faces are face `i` of `a` and face `j` of `b`; faces count
+/// from 1.
+pub fn are_kept_apart(a: &Mesh, i: u32, b: &Mesh, j: u32) -> bool
+    requires source { IsFaceNumber a.now i }
+    requires target { IsFaceNumber b.now j }
+    ensures exact { IsTrue result ↔ AreKeptApart (corners_of a.now i) (corners_of b.now j) }
+    ensures apart { IsTrue result → ¬ Meets (corners_of a.now i) (corners_of b.now j) }
+    ensures source { IsAcceptedFace (corners_of a.now i) }
+    ensures target { IsAcceptedFace (corners_of b.now j) }
+{
+    keeps_off(a, i, b, j) || keeps_off(b, j, a, i)
 }

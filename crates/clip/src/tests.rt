@@ -1,16 +1,18 @@
-// Worked rings.
-ghost use Rattle.std.specs.Prelude.{◌≡◌, ◌<◌, ◌≤◌, IfOk, IfSome, length};
+// Worked rings, and pieces copied from one list into another.
+ghost use Rattle.std.specs.Prelude.{◌≡◌, ◌<◌, ◌≤◌, ◌^◌, IfOk, IfSome, length};
 ghost use Rattle.cone_laws.specs.Ring.{IsRing};
 ghost use Rattle.mesh_check.specs.Mesh.{corners_of};
 ghost use Rattle.clip.specs.Planes.{IsFaceNumber};
+ghost use Rattle.clip.specs.Overlaps.{HasSmallNumbers};
 
 use super::*;
 use mesh_check::{Mesh, check, edge_count};
+use smallvec::SmallVec;
 use std::alloc::{AllocError, Global};
 use std::marker::Brand;
 use std::process::Abort;
 use std::sync::ledger::{Blank, Ledger};
-use vec_exact::{Faces, Ints, Nodes, RawMesh, Steps, Vec3};
+use vec_exact::{Faces, Ints, NoMemory, Nodes, RawMesh, Steps, Vec3};
 
 fn one_face(alloc: Global, nodes: &[[i32; 3]], face: &[i32]) -> Result<RawMesh, AllocError>
     ensures nodes { IfOk result (λ raw. length raw.nodes ≡ length nodes.now) }
@@ -171,4 +173,59 @@ fn corners_of_a_ring(rt: HostRuntime) {
         let (x, y, z) = want[t as usize - 1];
         assert_eq!(rt; corner_of_pair(&a, &b, &ring, t), Vec3 { x, y, z });
     }
+}
+
+// A piece of source face `a` and target face 9.
+fn triangle(alloc: Global, a: u32) -> Result<Piece, AllocError>
+    requires { a < 2 ^ 31 }
+    ensures { IfOk result HasSmallNumbers }
+{
+    let mut ring = Ring::new();
+    ring.push(1);
+    ring.push(2);
+    ring.push(5);
+    let items = SmallVec::from_slice(alloc, &[[1, 0, 0], [0, 1, 0], [0, 0, 1]])?;
+    Ok(Piece {
+        a,
+        b: 9,
+        ring,
+        corners: Corners { items },
+    })
+}
+
+// A list with the second of three pieces.
+fn second_of_three<C: PieceList>(alloc: Global) -> Result<C, NoMemory> {
+    let mut three = C::none(alloc);
+    three.push(triangle(alloc, 6)?)?;
+    let from = three.end();
+    three.push(triangle(alloc, 7)?)?;
+    let to = three.end();
+    three.push(triangle(alloc, 8)?)?;
+    let mut one = C::none(alloc);
+    one.append_between(alloc, &three, from, to)?;
+    Ok(one)
+}
+
+#[test]
+fn pieces_between_two_places(rt: HostRuntime) {
+    let Ok(list) = second_of_three::<Pieces>(rt.alloc()) else {
+        panic!(rt; "no memory");
+    };
+    assert_eq!(rt; list.items.len(), 1);
+    let piece = &list.items[0];
+    assert!(rt; piece.a == 7 && piece.b == 9);
+    assert!(rt; piece.ring[..] == [1, 2, 5]);
+    assert!(rt; piece.corners.items[..] == [[1, 0, 0], [0, 1, 0], [0, 0, 1]]);
+}
+
+#[test]
+fn columns_between_two_places(rt: HostRuntime) {
+    let Ok(columns) = second_of_three::<Columns>(rt.alloc()) else {
+        panic!(rt; "no memory");
+    };
+    assert!(rt; columns.sources[..] == [7]);
+    assert!(rt; columns.targets[..] == [9]);
+    assert!(rt; columns.ring_sizes[..] == [3]);
+    assert!(rt; columns.ring_planes[..] == [1, 2, 5]);
+    assert!(rt; columns.corners[..] == [1, 0, 0, 0, 1, 0, 0, 0, 1]);
 }
