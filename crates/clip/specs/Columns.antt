@@ -3,7 +3,7 @@ use Rattle.std.specs.Prelude.{◌≡◌, ℤ, pos, List, [], ◌∷◌, length, 
 use Rattle.std.specs.List.{flat_map}
 use Rattle.clip.specs.declared.pieces.Piece.{Piece}
 use Rattle.clip.specs.declared.columns.Columns.{Columns}
-use Rattle.clip.specs.declared.columns.PlaceInColumns.{PlaceInColumns}
+use Rattle.clip.specs.declared.columns.Place.{Place}
 
 -- the source faces, the target faces and the lengths of the rings, piece by piece
 abbrev pub source_column : List Piece → List ℤ
@@ -41,7 +41,7 @@ pub record AreColumnsOf (pieces : List Piece) (c : Columns) : Type 0 where
   pub corners : c.corners.items ≡ corner_column pieces
 
 -- the place stands behind these pieces: so many pieces, ring numbers and corner components stand before it
-pub record IsBehind (before : List Piece) (place : PlaceInColumns) : Type 0 where
+pub record IsBehind (before : List Piece) (place : Place) : Type 0 where
   pub pieces : place.pieces ≡ length before
   pub ring_numbers : place.ring_numbers ≡ length (ring_plane_column before)
   pub corner_components : place.corner_components ≡ length (corner_column before)

@@ -1,6 +1,7 @@
 // Pieces as columns of numbers, as an overlap file has them.
 ghost use Rattle.std.specs.Prelude.{◌≡◌, ◌≤◌, ◌++◌, ◌∷◌, [], ℕ, List, IfOk, OnOk, All, map, flat_map, pos, length, slice_range};
 ghost use Rattle.clip.specs.declared.pieces.Piece.{Piece as OnePiece};
+ghost use Rattle.clip.specs.declared.columns.Place.{Place as OnePlace};
 ghost use Rattle.clip.specs.Overlaps.{IsRingNumber, HasSmallNumbers};
 ghost use Rattle.clip.specs.Columns.{AreColumnsOf, ring_numbers, triple_of, corner_numbers};
 
@@ -10,16 +11,25 @@ use smallvec::SmallVec;
 use std::alloc::Global;
 use vec_exact::NoMemory;
 
+/// A place in a list of pieces, where a piece begins or ends, by what stands before it. A list that
+/// keeps whole pieces counts these alone, and the other two numbers are 0.
+#[derive(Clone, Copy, Debug, Default, PartialEq, Eq)]
+pub struct Place {
+    /// How many pieces.
+    pub pieces: usize,
+    /// How many numbers of rings.
+    pub ring_numbers: usize,
+    /// How many components of corners.
+    pub corner_components: usize,
+}
+
 /// A list of pieces, in whatever form it keeps them. Pieces join at its end.
 pub trait PieceList: Sized + Drop {
-    /// A place in a list, where a piece begins or ends.
-    type Place: Copy;
-
     /// It holds these pieces, in this order, and no other.
     ghost holds: { Self → List OnePiece → Type 0 };
 
     /// The place stands behind these pieces, in each list that begins with them.
-    ghost is_behind: { List OnePiece → Self.Place → Type 0 };
+    ghost is_behind: { List OnePiece → OnePlace → Type 0 };
 
     /// The list without a piece.
     fn none(alloc: Global) -> Self
@@ -36,7 +46,7 @@ pub trait PieceList: Sized + Drop {
             → OnOk result (holds self.new (pieces ++ others)) };
 
     /// The place behind the last piece.
-    fn end(&self) -> Self::Place
+    fn end(&self) -> Place
         ensures { (pieces : List OnePiece) → holds self.now pieces → is_behind pieces result };
 
     /// Puts the pieces between two places of another list at the end.
@@ -44,8 +54,8 @@ pub trait PieceList: Sized + Drop {
         &mut self,
         alloc: Global,
         other: &Self,
-        from: Self::Place,
-        to: Self::Place,
+        from: Place,
+        to: Place,
     ) -> Result<(), NoMemory>
         ensures { (pieces before between after : List OnePiece) → holds self.old pieces
             → holds other.now (before ++ (between ++ after)) → is_behind before from → is_behind (before ++ between) to
@@ -86,11 +96,9 @@ impl PieceList for Pieces {
     ghost use Rattle.std.specs.Prelude.{◌≡◌, List, length};
     ghost use Rattle.clip.specs.declared.pieces.Piece.{Piece as OnePiece};
 
-    type Place = usize;
-
     ghost holds = { λ list pieces. list ≡ pieces };
 
-    ghost is_behind = { λ pieces place. place ≡ length pieces };
+    ghost is_behind = { λ pieces place. place.pieces ≡ length pieces };
 
     fn none(alloc: Global) -> Self {
         Pieces {
@@ -109,18 +117,26 @@ impl PieceList for Pieces {
         Ok(())
     }
 
-    fn end(&self) -> usize {
-        self.items.len()
+    fn end(&self) -> Place {
+        Place {
+            pieces: self.items.len(),
+            ring_numbers: 0,
+            corner_components: 0,
+        }
     }
 
     fn append_between(
         &mut self,
         alloc: Global,
         other: &Self,
-        from: usize,
-        to: usize,
+        from: Place,
+        to: Place,
     ) -> Result<(), NoMemory> {
-        push_copies(&mut self.items, alloc, part(&other.items, from, to))
+        push_copies(
+            &mut self.items,
+            alloc,
+            part(&other.items, from.pieces, to.pieces),
+        )
     }
 }
 
@@ -137,17 +153,6 @@ pub struct Columns {
     pub ring_planes: Vec<i8>,
     /// The three components of each corner.
     pub corners: Vec<i32>,
-}
-
-/// A place in columns, by what stands before it.
-#[derive(Clone, Copy)]
-pub struct PlaceInColumns {
-    /// How many pieces.
-    pub pieces: usize,
-    /// How many numbers of rings.
-    pub ring_numbers: usize,
-    /// How many components of corners.
-    pub corner_components: usize,
 }
 
 fn put_ring(numbers: &mut Vec<i8>, ring: &Ring) -> Result<(), NoMemory>
@@ -181,8 +186,6 @@ fn put_corners(numbers: &mut Vec<i32>, corners: &Corners) -> Result<(), NoMemory
 impl PieceList for Columns {
     ghost use Rattle.clip.specs.Columns.{AreColumnsOf, IsBehind};
 
-    type Place = PlaceInColumns;
-
     ghost holds = { λ columns pieces. AreColumnsOf pieces columns };
 
     ghost is_behind = { λ pieces place. IsBehind pieces place };
@@ -214,8 +217,8 @@ impl PieceList for Columns {
         Ok(())
     }
 
-    fn end(&self) -> PlaceInColumns {
-        PlaceInColumns {
+    fn end(&self) -> Place {
+        Place {
             pieces: self.sources.len(),
             ring_numbers: self.ring_planes.len(),
             corner_components: self.corners.len(),
@@ -226,8 +229,8 @@ impl PieceList for Columns {
         &mut self,
         _alloc: Global,
         other: &Self,
-        from: PlaceInColumns,
-        to: PlaceInColumns,
+        from: Place,
+        to: Place,
     ) -> Result<(), NoMemory> {
         self.sources
             .extend_from_slice(part(&other.sources, from.pieces, to.pieces))?;

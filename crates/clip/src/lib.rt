@@ -12,7 +12,7 @@ mod sides;
 #[cfg(test)]
 mod tests;
 
-pub use columns::{Columns, PieceList, PlaceInColumns};
+pub use columns::{Columns, PieceList, Place};
 pub use lists::{PlaneList, Ring, corner};
 pub use overlap::Overlap;
 pub use pairs::{clip, is_ring, planes};
