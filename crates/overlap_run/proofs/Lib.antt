@@ -9,3 +9,4 @@ mod RingCorners
 mod Targets
 mod ClipCounts
 mod NumberedBlocks
+mod Stretches

@@ -4,6 +4,7 @@ use Rattle.std.specs.List.{range_with_len, sum_by}
 use Rattle.vec_exact.specs.declared.RawMesh.{RawMesh}
 use Rattle.cell_index.specs.CandidateList.{candidates_of}
 use Rattle.clip.specs.declared.pieces.Piece.{Piece}
+use Rattle.clip.specs.declared.columns.Place.{Place}
 use Rattle.clip.specs.Overlaps.{IsSoundPiece}
 use Rattle.overlap_run.specs.declared.blocks.Block.{Block}
 use Rattle.overlap_run.specs.declared.blocks.Stretch.{Stretch}
@@ -64,7 +65,7 @@ pub record IsNumberedBlock {C : Type 0} (Holds : C → List Piece → Type 0) (a
   pub few : block.count ≤ clip_count a b (64 * s + 1) (min (length a.faces) (64 * (s + 1)))
 
 -- The pieces stand in the list between two places, behind some pieces and before others. Holds says which pieces a list holds, and IsBehind which place stands behind which pieces.
-abbrev pub StandsIn : {C Place : Type 0} → (C → List Piece → Type 0) → (List Piece → Place → Type 0) → C → Stretch Place → List Piece → Type 0
+abbrev pub StandsIn : {C : Type 0} → (C → List Piece → Type 0) → (List Piece → Place → Type 0) → C → Stretch → List Piece → Type 0
 StandsIn Holds IsBehind list stretch pieces = (before after : List Piece) × Holds list (before ++ (pieces ++ after)) × IsBehind before stretch.from × IsBehind (before ++ pieces) stretch.to
 
 -- there are pieces that the list holds

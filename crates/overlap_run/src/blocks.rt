@@ -9,7 +9,7 @@ ghost use Rattle.overlap_run.specs.Parts.{IsBlockOf, IsNumberedBlock, TakesBlock
 use crate::Gate;
 use crate::faces::clip_face;
 use cell_index::{Index, find_candidates};
-use clip::{PieceList, Pieces};
+use clip::{PieceList, Pieces, Place};
 use mesh_check::{Mesh, face_count};
 use std::alloc::Global;
 use std::sync::ledger::Ledger;
@@ -71,9 +71,9 @@ pub fn clip_block<C: PieceList, L: Ledger>(
 
 // Where some pieces of a list stand: from one place to another.
 #[derive(Clone, Copy)]
-pub struct Stretch<P> {
-    pub from: P,
-    pub to: P,
+pub struct Stretch {
+    pub from: Place,
+    pub to: Place,
 }
 
 // Block s, between the calls of the gate.
@@ -122,14 +122,11 @@ pub fn take_block<C: PieceList>(
 
 // Puts the pieces of a block at the end of a list. The answer is the block with where they stand
 // there.
-pub fn put_block<C: PieceList>(
-    list: &mut C,
-    block: Block<C>,
-) -> Result<Block<Stretch<C::Place>>, NoMemory>
+pub fn put_block<C: PieceList>(list: &mut C, block: Block<C>) -> Result<Block<Stretch>, NoMemory>
     requires list { HoldsSome C.holds list.old }
     requires pieces { HoldsSome C.holds block.pieces }
     ensures block { IfOk result (λ put. (a b : RawMesh) → (s : ℕ) → IsNumberedBlock C.holds a b s block → IsNumberedBlock (StandsIn C.holds C.is_behind list.new) a b s put) }
-    ensures kept { OnOk result ((stretch : Stretch C.Place) (pieces : List Piece) → StandsIn C.holds C.is_behind list.old stretch pieces → StandsIn C.holds C.is_behind list.new stretch pieces) }
+    ensures kept { OnOk result ((stretch : Stretch) (pieces : List Piece) → StandsIn C.holds C.is_behind list.old stretch pieces → StandsIn C.holds C.is_behind list.new stretch pieces) }
     ensures list { OnOk result (HoldsSome C.holds list.new) }
 {
     let from = list.end();
@@ -147,7 +144,7 @@ pub fn take_stretch<C: PieceList>(
     alloc: Global,
     run: &mut Block<C>,
     list: &C,
-    block: Block<Stretch<C::Place>>,
+    block: Block<Stretch>,
 ) -> Result<(), NoMemory>
     requires room { run.old.count + block.count < 2 ^ 64 }
     ensures { OnOk result (TakesBlock C.holds (StandsIn C.holds C.is_behind list.now) run.old block run.new) }

@@ -8,7 +8,7 @@ ghost use Rattle.clip.specs.Planes.{IsFaceNumber};
 use crate::blocks::{BLOCK_SIZE, GREATEST_COUNT};
 use block_workers::{BlockJob, run_blocks};
 use cell_index::{Index, find_candidates};
-use clip::{Piece, PieceList};
+use clip::{Piece, PieceList, Place, are_kept_apart};
 use mesh_check::{Mesh, face_count};
 use std::alloc::Global;
 use std::thread::Threads;
@@ -20,8 +20,6 @@ pub struct NoPieces;
 
 impl PieceList for NoPieces {
     ghost use Rattle.std.specs.Prelude.{⊤};
-
-    type Place = ();
 
     ghost holds = { λ _ _. ⊤ };
 
@@ -39,14 +37,16 @@ impl PieceList for NoPieces {
         Ok(())
     }
 
-    fn end(&self) {}
+    fn end(&self) -> Place {
+        Place::default()
+    }
 
     fn append_between(
         &mut self,
         _alloc: Global,
         _other: &Self,
-        _from: (),
-        _to: (),
+        _from: Place,
+        _to: Place,
     ) -> Result<(), NoMemory> {
         Ok(())
     }
@@ -196,11 +196,4 @@ pub fn may_be_too_many<R: Threads>(
     }
     job.possible_only = true;
     Ok(pair_count(rt, alloc, &job, workers)? > GREATEST_COUNT)
-}
-
-fn are_kept_apart(a: &Mesh, i: u32, b: &Mesh, j: u32) -> bool
-    requires source { IsFaceNumber a.now i }
-    requires target { IsFaceNumber b.now j }
-{
-    face_count(a) == 0
 }

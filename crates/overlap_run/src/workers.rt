@@ -44,7 +44,7 @@ fn counted_block<C: PieceList, G: Gate, L: Ledger>(
     s: u32,
     list: &mut C,
     blank: Blank,
-) -> Result<Block<Stretch<C::Place>>, NoMemory>
+) -> Result<Block<Stretch>, NoMemory>
     requires index { IsIndexOf index.now b.now }
     requires block { 64 * s < length a.now.faces }
     requires list { HoldsSome C.holds list.old }
@@ -52,7 +52,7 @@ fn counted_block<C: PieceList, G: Gate, L: Ledger>(
     requires parts { blank.parts ≡ L.parts }
     requires some { 0 < blank.parts }
     ensures block { IfOk result (IsNumberedBlock (StandsIn C.holds C.is_behind list.new) a.now b.now s) }
-    ensures kept { OnOk result ((stretch : Stretch C.Place) (pieces : List Piece) → StandsIn C.holds C.is_behind list.old stretch pieces → StandsIn C.holds C.is_behind list.new stretch pieces) }
+    ensures kept { OnOk result ((stretch : Stretch) (pieces : List Piece) → StandsIn C.holds C.is_behind list.old stretch pieces → StandsIn C.holds C.is_behind list.new stretch pieces) }
     ensures list { OnOk result (HoldsSome C.holds list.new) }
 {
     let mut steps = Steps::<L>::new(blank);
@@ -63,7 +63,7 @@ fn counted_block<C: PieceList, G: Gate, L: Ledger>(
 impl<'a, C: PieceList + Send + Sync, G: Gate + Sync> BlockJob for SourceBlocks<'a, C, G> {
     type Part = C;
 
-    type Output = Block<Stretch<C::Place>>;
+    type Output = Block<Stretch>;
 
     ghost blocks = { λ job. div_ceil (length job.a.now.faces) 64 };
 
@@ -75,12 +75,7 @@ impl<'a, C: PieceList + Send + Sync, G: Gate + Sync> BlockJob for SourceBlocks<'
         C::none(alloc)
     }
 
-    fn run(
-        &self,
-        alloc: Global,
-        block: u32,
-        list: &mut C,
-    ) -> Result<Block<Stretch<C::Place>>, NoMemory> {
+    fn run(&self, alloc: Global, block: u32, list: &mut C) -> Result<Block<Stretch>, NoMemory> {
         counted_block::<C, G, Brand>(
             alloc,
             self.a,
@@ -101,7 +96,7 @@ fn gathered<C: PieceList>(
     a: &Mesh,
     b: &Mesh,
     lists: &[C],
-    blocks: Vec<Placed<Block<Stretch<C::Place>>>>,
+    blocks: Vec<Placed<Block<Stretch>>>,
 ) -> Result<Block<C>, NoMemory>
     requires count { length blocks.items ≡ div_ceil (length a.now.faces) 64 }
     requires each { AllInPlace (IsPlacedBy (λ list. IsNumberedBlock (StandsIn C.holds C.is_behind list) a.now b.now) lists.now) blocks.items }
@@ -131,7 +126,7 @@ fn drawn<R: Threads, C: PieceList + Send + Sync, G: Gate + Sync>(
     index: &Index,
     workers: u32,
     gate: &G,
-) -> Result<Parts<C, Block<Stretch<C::Place>>>, NoMemory>
+) -> Result<Parts<C, Block<Stretch>>, NoMemory>
     requires index { IsIndexOf index.now b.now }
     requires workers { (1 ≤ workers) × (workers ≤ 64) }
     ensures count { IfOk result (λ done. length done.blocks.items ≡ div_ceil (length a.now.faces) 64) }
@@ -145,6 +140,21 @@ fn drawn<R: Threads, C: PieceList + Send + Sync, G: Gate + Sync>(
         list: PhantomData::<C>,
     };
     run_blocks(rt, alloc, &job, face_count(a).div_ceil(BLOCK_SIZE), workers)
+}
+
+// The blocks that the workers did, as one.
+fn whole<C: PieceList>(
+    alloc: Global,
+    a: &Mesh,
+    b: &Mesh,
+    done: Parts<C, Block<Stretch>>,
+) -> Result<Block<C>, NoMemory>
+    requires count { length done.blocks.items ≡ div_ceil (length a.now.faces) 64 }
+    requires each { AllInPlace (IsPlacedBy (λ list. IsNumberedBlock (StandsIn C.holds C.is_behind list) a.now b.now) done.parts.items) done.blocks.items }
+    ensures { IfOk result (IsBlockOf C.holds a.now b.now (DoMeet a.now b.now)) }
+{
+    let Parts { parts, blocks } = done;
+    gathered(alloc, a, b, &parts, blocks)
 }
 
 // All blocks, drawn by the workers, as one. Where there may be more pairs than an overlap may have,
@@ -165,7 +175,7 @@ pub fn shared_out<R: Threads, C: PieceList + Send + Sync, G: Gate + Sync>(
 {
     if may_be_too_many(rt, alloc, a, b, &index, workers)? {
         let done = drawn(rt, alloc, a, b, &index, workers, &OpenGate)?;
-        let counted: Block<NoPieces> = gathered(alloc, a, b, &done.parts, done.blocks)?;
+        let counted: Block<NoPieces> = whole(alloc, a, b, done)?;
         if counted.count > GREATEST_COUNT {
             return Ok(Block {
                 count: counted.count,
@@ -175,5 +185,5 @@ pub fn shared_out<R: Threads, C: PieceList + Send + Sync, G: Gate + Sync>(
     }
     let done = drawn(rt, alloc, a, b, &index, workers, gate)?;
     drop(index);
-    gathered(alloc, a, b, &done.parts, done.blocks)
+    whole(alloc, a, b, done)
 }
