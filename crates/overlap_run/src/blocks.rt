@@ -150,7 +150,7 @@ pub fn take_stretch<C: PieceList>(
     ensures { OnOk result (TakesBlock C.holds (StandsIn C.holds C.is_behind list.now) run.old block run.new) }
 {
     run.count += block.count;
-    if run.count > GREATEST_COUNT {
+    if GREATEST_COUNT < run.count {
         run.pieces = C::none(alloc);
         return Ok(());
     }
