@@ -6,7 +6,7 @@ use Rattle.vec_exact.specs.declared.RawMesh.{RawMesh}
 use Rattle.clip.specs.declared.pieces.Piece.{Piece}
 use Rattle.overlap_run.specs.declared.blocks.Block.{Block}
 use Rattle.overlap_run.specs.Pairs.{DoMeet}
-use Rattle.overlap_run.specs.Parts.{DoMeetWithin, IsBlockOf, IsNumberedBlock, TakesBlock, clip_count}
+use Rattle.overlap_run.specs.Parts.{DoMeetWithin, IsBlockOf, IsNumberedBlock, AreFirstBlocks, TakesBlock, clip_count}
 use Rattle.overlap_run.proofs.BlockSteps.{block_none}
 use Rattle.overlap_run.proofs.RunSteps.{no_faces, run_more, whole_block}
 use Rattle.overlap_run.proofs.ClipCounts.{clip_count_none, clip_count_join, clip_count_grows, clip_count_fits}
@@ -51,27 +51,30 @@ pub clipped_fits : (a b : RawMesh) (s : ℕ) → length a.faces ≤ 1048576 → 
 clipped_fits a b s m n = clip_count_fits a b 1 (ends_at a s) (omega arith) (ends_at_most a s) m n
 
 module _ {C : Type 0} (Holds : C → List Piece → Type 0) (a b : RawMesh) where
-  pub blocks_none : (run : Block C) → run.count ≡ 0 → Holds run.pieces [] → IsBlockOf Holds a b (DoMeetWithin a b 1 (ends_at a 0)) run
-  blocks_none run e f = block_none Holds a b (DoMeetWithin a b 1 (ends_at a 0)) (no_faces a b 1 (ends_at a 0) (omega arith)) run e f
+  pub first_none : (run : Block C) → run.count ≡ 0 → Holds run.pieces [] → AreFirstBlocks Holds a b 0 run
+  first_none run e f = record {
+    block_of = block_none Holds a b (DoMeetWithin a b 1 (ends_at a 0)) (no_faces a b 1 (ends_at a 0) (omega arith)) run e f;
+    few = omega (arith, e);
+  }
 
   -- all blocks
-  pub blocks_end : (s blocks : ℕ) → blocks ≤ s → blocks ≡ div_ceil (length a.faces) 64 → (run : Block C) → IsBlockOf Holds a b (DoMeetWithin a b 1 (ends_at a s)) run → IsBlockOf Holds a b (DoMeet a b) run
-  blocks_end s blocks l e run h = whole_block Holds a b run (subst (λ (n : ℕ). IsBlockOf Holds a b (DoMeetWithin a b 1 n) run) (ends_at_last a s blocks l e) h)
+  pub first_all : (s blocks : ℕ) → blocks ≤ s → blocks ≡ div_ceil (length a.faces) 64 → (run : Block C) → AreFirstBlocks Holds a b s run → IsBlockOf Holds a b (DoMeet a b) run
+  first_all s blocks l e run h = whole_block Holds a b run (subst (λ (n : ℕ). IsBlockOf Holds a b (DoMeetWithin a b 1 n) run) (ends_at_last a s blocks l e) h.block_of)
 
 -- one block more
 module _ {C D : Type 0} (Holds : C → List Piece → Type 0) (HoldsMore : D → List Piece → Type 0) (a b : RawMesh) (s : ℕ) (face : 64 * s < length a.faces) where
-  pub blocks_more : (old : Block C) (more : Block D) (new : Block C) → IsBlockOf Holds a b (DoMeetWithin a b 1 (ends_at a s)) old → IsNumberedBlock HoldsMore a b s more
-      → TakesBlock Holds HoldsMore old more new → IsBlockOf Holds a b (DoMeetWithin a b 1 (ends_at a (s + 1))) new
-  blocks_more old more new h k takes =
+  pub first_more : (old : Block C) (more : Block D) (new : Block C) → AreFirstBlocks Holds a b s old → IsNumberedBlock HoldsMore a b s more → TakesBlock Holds HoldsMore old more new
+      → AreFirstBlocks Holds a b (s + 1) new
+  first_more old more new h k takes =
       let next = subst (λ (n : ℕ). IsBlockOf HoldsMore a b (DoMeetWithin a b (n + 1) (ends_at a (s + 1))) more) (sym (before a s face)) k.block_of in
-      run_more Holds HoldsMore a b (ends_at a s) (ends_at a (s + 1)) (omega (arith, before a s face, later a s face)) old more new h next takes
+      record {
+        block_of = run_more Holds HoldsMore a b (ends_at a s) (ends_at a (s + 1)) (omega (arith, before a s face, later a s face)) old more new h.block_of next takes;
+        few = omega (arith, h.few, k.few, takes.count, clipped_more a b s face);
+      }
 
-module _ {D : Type 0} (HoldsMore : D → List Piece → Type 0) (a b : RawMesh) (s : ℕ) (face : 64 * s < length a.faces) where
-  pub few_more : (count next : ℕ) (more : Block D) → count ≤ clipped a b s → IsNumberedBlock HoldsMore a b s more → next ≡ count + more.count → next ≤ clipped a b (s + 1)
-  few_more count next more h k e = omega (arith, h, k.few, e, clipped_more a b s face)
-
-  pub room_for : (count : ℕ) (more : Block D) → length a.faces ≤ 1048576 → length b.faces ≤ 1048576 → count ≤ clipped a b s → IsNumberedBlock HoldsMore a b s more → count + more.count < 2 ^ 64
-  room_for count more m n h k = omega (arith, h, k.few, clipped_more a b s face, clipped_fits a b (s + 1) m n)
+  pub room_for : (old : Block C) (more : Block D) → length a.faces ≤ 1048576 → length b.faces ≤ 1048576 → AreFirstBlocks Holds a b s old → IsNumberedBlock HoldsMore a b s more
+      → old.count + more.count < 2 ^ 64
+  room_for old more m n h k = omega (arith, h.few, k.few, clipped_more a b s face, clipped_fits a b (s + 1) m n)
 
 -- the items from the first on, and from the second on
 pub first_in_place : {X : Type 0} (P : ℕ → X → Type 0) (s : ℕ) (left rest : List X) (x : X) → left ≡ x ∷ rest → AllInPlace (λ t. P (s + t)) left → P s x

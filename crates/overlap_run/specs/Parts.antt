@@ -2,6 +2,8 @@
 use Rattle.std.specs.Prelude.{◌≡◌, ℕ, ◌+◌, ◌-◌, ◌*◌, ◌<◌, ◌≤◌, ◌⊎◌, List, [], ◌∷◌, ◌++◌, length, map, All, min}
 use Rattle.std.specs.List.{range_with_len, sum_by}
 use Rattle.vec_exact.specs.declared.RawMesh.{RawMesh}
+use Rattle.block_workers.specs.declared.job.Placed.{Placed}
+use Rattle.block_workers.specs.InParts.{IsPlacedBy}
 use Rattle.cell_index.specs.CandidateList.{candidates_of}
 use Rattle.clip.specs.declared.pieces.Piece.{Piece}
 use Rattle.clip.specs.declared.columns.Place.{Place}
@@ -64,6 +66,11 @@ pub record IsNumberedBlock {C : Type 0} (Holds : C → List Piece → Type 0) (a
   pub block_of : IsBlockOf Holds a b (DoMeetWithin a b (64 * s + 1) (min (length a.faces) (64 * (s + 1)))) block
   pub few : block.count ≤ clip_count a b (64 * s + 1) (min (length a.faces) (64 * (s + 1)))
 
+-- all of the first s blocks as one, which has no more pairs than are clipped for them
+pub record AreFirstBlocks {C : Type 0} (Holds : C → List Piece → Type 0) (a b : RawMesh) (s : ℕ) (block : Block C) : Type 0 where
+  pub block_of : IsBlockOf Holds a b (DoMeetWithin a b 1 (min (length a.faces) (64 * s))) block
+  pub few : block.count ≤ clip_count a b 1 (min (length a.faces) (64 * s))
+
 -- The pieces stand in the list between two places, behind some pieces and before others. Holds says which pieces a list holds, and IsBehind which place stands behind which pieces.
 abbrev pub StandsIn : {C : Type 0} → (C → List Piece → Type 0) → (List Piece → Place → Type 0) → C → Stretch → List Piece → Type 0
 StandsIn Holds IsBehind list stretch pieces = (before after : List Piece) × Holds list (before ++ (pieces ++ after)) × IsBehind before stretch.from × IsBehind (before ++ pieces) stretch.to
@@ -71,3 +78,7 @@ StandsIn Holds IsBehind list stretch pieces = (before after : List Piece) × Hol
 -- there are pieces that the list holds
 abbrev pub HoldsSome : {C : Type 0} → (C → List Piece → Type 0) → C → Type 0
 HoldsSome Holds list = (pieces : List Piece) × Holds list pieces
+
+-- block number n + t was put in one of the lists, which has its pieces
+abbrev pub IsBlockInLists : {C : Type 0} → (C → List Piece → Type 0) → (List Piece → Place → Type 0) → RawMesh → RawMesh → List C → ℕ → ℕ → Placed (Block Stretch) → Type 0
+IsBlockInLists Holds IsBehind a b lists n t placed = IsPlacedBy (λ list t block. IsNumberedBlock (StandsIn Holds IsBehind list) a b (n + t) block) lists t placed

@@ -1,13 +1,12 @@
-// Blocks that several workers draw, gathered in the order of their numbers.
-ghost use Rattle.std.specs.Prelude.{◌≡◌, ◌≢◌, ℕ, ◌+◌, ◌*◌, ◌<◌, ◌≤◌, ◌^◌, List, IfOk, OnOk, length, min};
+// Blocks that several workers draw, put in the order of their numbers.
+ghost use Rattle.std.specs.Prelude.{◌≡◌, ℕ, ◌+◌, ◌-◌, ◌*◌, ◌<◌, ◌≤◌, List, IfOk, OnOk, length};
 ghost use Rattle.std.specs.Int.{div_ceil};
 ghost use Rattle.cell_index.specs.IndexOf.{IsIndexOf};
 ghost use Rattle.clip.specs.declared.pieces.Piece.{Piece};
 ghost use Rattle.block_workers.specs.InPlace.{AllInPlace};
-ghost use Rattle.block_workers.specs.InParts.{IsPlacedBy};
 ghost use Rattle.overlap_run.specs.declared.blocks.Stretch.{Stretch};
 ghost use Rattle.overlap_run.specs.Pairs.{DoMeet};
-ghost use Rattle.overlap_run.specs.Parts.{IsBlockOf, IsNumberedBlock, StandsIn, HoldsSome};
+ghost use Rattle.overlap_run.specs.Parts.{IsBlockOf, IsNumberedBlock, AreFirstBlocks, StandsIn, IsBlockInLists, HoldsSome};
 
 use crate::blocks::{BLOCK_SIZE, GREATEST_COUNT, Stretch, numbered_block, put_block, take_stretch};
 use crate::counting::{NoPieces, may_be_too_many};
@@ -22,10 +21,12 @@ use std::sync::ledger::{Blank, Ledger};
 use std::thread::Threads;
 use vec_exact::{NoMemory, Steps};
 
-// The blocks of a source mesh, as work for several workers, who share the two meshes, the index of
-// the target and the gate. Each of them has one list for the pieces of all its blocks.
+// Some blocks of a source mesh, from block `first` on, as work for several workers, who share the two
+// meshes, the index of the target and the gate. Each of them has one list for the pieces of all its
+// blocks.
 #[derive(Drop)]
 struct SourceBlocks<'a, C, G> {
+    first: u32,
     a: &'a Mesh,
     b: &'a Mesh,
     index: &'a Index,
@@ -65,60 +66,59 @@ impl<'a, C: PieceList + Send + Sync, G: Gate + Sync> BlockJob for SourceBlocks<'
 
     type Output = Block<Stretch>;
 
-    ghost blocks = { λ job. div_ceil (length job.a.now.faces) 64 };
+    ghost blocks = { λ job. div_ceil (length job.a.now.faces) 64 - job.first };
 
     ghost is_part = { λ _ list. HoldsSome C.holds list };
 
-    ghost gives = { λ job list s block. IsNumberedBlock (StandsIn C.holds C.is_behind list) job.a.now job.b.now s block };
+    ghost gives = { λ job list t block. IsNumberedBlock (StandsIn C.holds C.is_behind list) job.a.now job.b.now (job.first + t) block };
 
     fn begin(&self, alloc: Global) -> C {
         C::none(alloc)
     }
 
     fn run(&self, alloc: Global, block: u32, list: &mut C) -> Result<Block<Stretch>, NoMemory> {
+        // The count says that the number of the block fits.
+        let _faces = face_count(self.a);
         counted_block::<C, G, Brand>(
             alloc,
             self.a,
             self.b,
             self.index,
             self.gate,
-            block,
+            self.first + block,
             list,
             Blank::new(1),
         )
     }
 }
 
-// The blocks of all source faces, which stand in the order of their numbers, as one. The pieces of
-// each stand in one of the lists.
-fn gathered<C: PieceList>(
+// Puts the blocks of a round behind those so far. The pieces of each stand in one of the lists.
+fn gather<C: PieceList>(
     alloc: Global,
     a: &Mesh,
     b: &Mesh,
+    first: u32,
+    run: &mut Block<C>,
     lists: &[C],
     blocks: Vec<Placed<Block<Stretch>>>,
-) -> Result<Block<C>, NoMemory>
-    requires count { length blocks.items ≡ div_ceil (length a.now.faces) 64 }
-    requires each { AllInPlace (IsPlacedBy (λ list. IsNumberedBlock (StandsIn C.holds C.is_behind list) a.now b.now) lists.now) blocks.items }
-    ensures { IfOk result (IsBlockOf C.holds a.now b.now (DoMeet a.now b.now)) }
+) -> Result<(), NoMemory>
+    requires count { first + length blocks.items ≤ div_ceil (length a.now.faces) 64 }
+    requires each { AllInPlace (IsBlockInLists C.holds C.is_behind a.now b.now lists.now first) blocks.items }
+    requires run { AreFirstBlocks C.holds a.now b.now first run.old }
+    ensures { OnOk result (AreFirstBlocks C.holds a.now b.now (first + length blocks.items) run.new) }
 {
     // The counts say that all numbers fit.
     let _source_faces = face_count(a);
     let _target_faces = face_count(b);
-    let mut run = Block {
-        count: 0,
-        pieces: C::none(alloc),
-    };
     for block in blocks {
         let list = &lists[block.part as usize];
-        take_stretch(alloc, &mut run, list, block.output)?;
+        take_stretch(alloc, run, list, block.output)?;
     }
-    Ok(run)
+    Ok(())
 }
 
-// All blocks, drawn by the workers: the lists of the workers, and the blocks in the order of their
-// numbers.
-fn drawn<R: Threads, C: PieceList + Send + Sync, G: Gate + Sync>(
+// One round: so many blocks from block `first` on, drawn by the workers, and put behind those so far.
+fn take_round<R: Threads, C: PieceList + Send + Sync, G: Gate + Sync>(
     rt: &R,
     alloc: Global,
     a: &Mesh,
@@ -126,56 +126,87 @@ fn drawn<R: Threads, C: PieceList + Send + Sync, G: Gate + Sync>(
     index: &Index,
     workers: u32,
     gate: &G,
-) -> Result<Parts<C, Block<Stretch>>, NoMemory>
+    first: u32,
+    blocks: u32,
+    run: &mut Block<C>,
+) -> Result<(), NoMemory>
     requires index { IsIndexOf index.now b.now }
     requires workers { (1 ≤ workers) × (workers ≤ 64) }
-    ensures count { IfOk result (λ done. length done.blocks.items ≡ div_ceil (length a.now.faces) 64) }
-    ensures each { IfOk result (λ done. AllInPlace (IsPlacedBy (λ list. IsNumberedBlock (StandsIn C.holds C.is_behind list) a.now b.now) done.parts.items) done.blocks.items) }
+    requires blocks { first + blocks ≤ div_ceil (length a.now.faces) 64 }
+    requires run { AreFirstBlocks C.holds a.now b.now first run.old }
+    ensures { OnOk result (AreFirstBlocks C.holds a.now b.now (first + blocks) run.new) }
 {
     let job = SourceBlocks {
+        first,
         a,
         b,
         index,
         gate,
         list: PhantomData::<C>,
     };
-    run_blocks(rt, alloc, &job, face_count(a).div_ceil(BLOCK_SIZE), workers)
+    let Parts {
+        parts,
+        blocks: placed,
+    } = run_blocks(rt, alloc, &job, blocks, workers)?;
+    gather(alloc, a, b, first, run, &parts, placed)
 }
 
-// The blocks that the workers did, as one.
-fn whole<C: PieceList>(
+// How many rounds there are at most: the lists of the workers, which wait for the end of a round,
+// then have about a sixteenth of all pieces.
+const ROUNDS: u32 = 16;
+
+// How many blocks there are in a round for each worker at least, so that none waits long for the
+// last one.
+const BLOCKS_FOR_EACH: u32 = 8;
+
+// All blocks, round by round, as one.
+fn in_rounds<R: Threads, C: PieceList + Send + Sync, G: Gate + Sync>(
+    rt: &R,
     alloc: Global,
     a: &Mesh,
     b: &Mesh,
-    done: Parts<C, Block<Stretch>>,
+    index: &Index,
+    workers: u32,
+    gate: &G,
 ) -> Result<Block<C>, NoMemory>
-    requires count { length done.blocks.items ≡ div_ceil (length a.now.faces) 64 }
-    requires each { AllInPlace (IsPlacedBy (λ list. IsNumberedBlock (StandsIn C.holds C.is_behind list) a.now b.now) done.parts.items) done.blocks.items }
+    requires index { IsIndexOf index.now b.now }
+    requires workers { (1 ≤ workers) × (workers ≤ 64) }
     ensures { IfOk result (IsBlockOf C.holds a.now b.now (DoMeet a.now b.now)) }
 {
-    let Parts { parts, blocks } = done;
-    gathered(alloc, a, b, &parts, blocks)
+    let blocks = face_count(a).div_ceil(BLOCK_SIZE);
+    let round = blocks.div_ceil(ROUNDS).max(BLOCKS_FOR_EACH * workers);
+    let mut run = Block {
+        count: 0,
+        pieces: C::none(alloc),
+    };
+    let mut first = 0;
+    while first < blocks {
+        let count = round.min(blocks - first);
+        take_round(
+            rt, alloc, a, b, index, workers, gate, first, count, &mut run,
+        )?;
+        first += count;
+    }
+    Ok(run)
 }
 
 // All blocks, drawn by the workers, as one. Where there may be more pairs than an overlap may have,
-// they are counted first, so that no list is kept past the limit. The index is let go before the
-// pieces are gathered.
+// they are counted first, so that no list is kept past the limit.
 pub fn shared_out<R: Threads, C: PieceList + Send + Sync, G: Gate + Sync>(
     rt: &R,
     alloc: Global,
     a: &Mesh,
     b: &Mesh,
-    index: Index,
+    index: &Index,
     workers: u32,
     gate: &G,
 ) -> Result<Block<C>, NoMemory>
-    requires index { IsIndexOf index b.now }
+    requires index { IsIndexOf index.now b.now }
     requires workers { (1 ≤ workers) × (workers ≤ 64) }
     ensures { IfOk result (IsBlockOf C.holds a.now b.now (DoMeet a.now b.now)) }
 {
-    if may_be_too_many(rt, alloc, a, b, &index, workers)? {
-        let done = drawn(rt, alloc, a, b, &index, workers, &OpenGate)?;
-        let counted: Block<NoPieces> = whole(alloc, a, b, done)?;
+    if may_be_too_many(rt, alloc, a, b, index, workers)? {
+        let counted: Block<NoPieces> = in_rounds(rt, alloc, a, b, index, workers, &OpenGate)?;
         if counted.count > GREATEST_COUNT {
             return Ok(Block {
                 count: counted.count,
@@ -183,7 +214,5 @@ pub fn shared_out<R: Threads, C: PieceList + Send + Sync, G: Gate + Sync>(
             });
         }
     }
-    let done = drawn(rt, alloc, a, b, &index, workers, gate)?;
-    drop(index);
-    whole(alloc, a, b, done)
+    in_rounds(rt, alloc, a, b, index, workers, gate)
 }

@@ -1,6 +1,6 @@
 use Rattle.std.proofs.Common.{◌+◌, ◌≤◌, refl, ap, ◌∙◌, arith}
 use Rattle.std.specs.Int.{div_ceil}
-use Rattle.overlap_run.proofs.NumberedBlocks.{has_face, clipped_none, clipped_more, clipped_at_most, blocks_none, blocks_more, few_more, room_for, blocks_end, ends_at_last}
+use Rattle.overlap_run.proofs.NumberedBlocks.{has_face, clipped_none, clipped_more, clipped_at_most, first_none, first_more, room_for, first_all, ends_at_last}
 use Rattle.overlap_run.specs.Parts.{clip_count}
 use Rattle.overlap_run.proofs.run.ascending.Goals as goal
 
@@ -9,8 +9,7 @@ loop-s-init g c =
     let a = c.args.a.now in
     let b = c.args.b.now in
     record {
-      run = blocks_none g.C.PieceList.holds a b _ refl c.none.ensures;
-      few = omega (arith, clipped_none a b);
+      run = first_none g.C.PieceList.holds a b _ refl c.none.ensures;
       ticks = omega (arith, clipped_none a b);
     }
 
@@ -33,8 +32,8 @@ take_block-requires g c =
     let s = c.loop-s.s in
     let face = has_face a s c.div_ceil-s-end.result c.loop-s-test.true (c.div_ceil-s-end.ensures ∙ ap (λ n. div_ceil n 64) c.face_count-faces.ensures.count) in
     record {
-      room = room_for g.C.PieceList.holds a b s face c.loop-s.run.count c.in_ok-block.block c.face_count-faces.ensures.accepted.counts.face_limit c.face_count-target_faces.ensures.accepted.counts.face_limit
-          c.loop-s.invariant.few c.in_ok-block.ensures.block;
+      room = room_for g.C.PieceList.holds g.C.PieceList.holds a b s face c.loop-s.run c.in_ok-block.block c.face_count-faces.ensures.accepted.counts.face_limit
+          c.face_count-target_faces.ensures.accepted.counts.face_limit c.loop-s.invariant.run c.in_ok-block.ensures.block;
     }
 
 pub returns-in_err-take_block-clause-most : goal.returns-in_err-take_block-clause-most
@@ -51,10 +50,8 @@ loop-s-preserved g c =
     let b = c.args.b.now in
     let s = c.loop-s.s in
     let face = has_face a s c.div_ceil-s-end.result c.loop-s-test.true (c.div_ceil-s-end.ensures ∙ ap (λ n. div_ceil n 64) c.face_count-faces.ensures.count) in
-    let takes = c.in_ok-take_block.ensures in
     record {
-      run = blocks_more g.C.PieceList.holds g.C.PieceList.holds a b s face c.loop-s.run c.in_ok-block.block c.take_block.new.run c.loop-s.invariant.run c.in_ok-block.ensures.block takes;
-      few = few_more g.C.PieceList.holds a b s face c.loop-s.run.count c.take_block.new.run.count c.in_ok-block.block c.loop-s.invariant.few c.in_ok-block.ensures.block takes.count;
+      run = first_more g.C.PieceList.holds g.C.PieceList.holds a b s face c.loop-s.run c.in_ok-block.block c.take_block.new.run c.loop-s.invariant.run c.in_ok-block.ensures.block c.in_ok-take_block.ensures;
       ticks = omega (arith, c.loop-s.invariant.ticks, c.in_ok-block.ensures.ticks, clipped_more a b s face);
     }
 
@@ -62,7 +59,7 @@ pub returns-clause-run : goal.returns-clause-run
 returns-clause-run g c =
     let e = c.div_ceil-s-end.ensures ∙ ap (λ n. div_ceil n 64) c.face_count-faces.ensures.count in
     let past : c.div_ceil-s-end.result ≤ c.loop-s.s = omega (arith, c.loop-s-test.false) in
-    blocks_end g.C.PieceList.holds c.args.a.now c.args.b.now c.loop-s.s c.div_ceil-s-end.result past e c.loop-s.run c.loop-s.invariant.run
+    first_all g.C.PieceList.holds c.args.a.now c.args.b.now c.loop-s.s c.div_ceil-s-end.result past e c.loop-s.run c.loop-s.invariant.run
 
 pub returns-clause-ticks : goal.returns-clause-ticks
 returns-clause-ticks g c =
