@@ -12,7 +12,8 @@ use vec_exact::NoMemory;
 
 /// A list of pieces, in whatever form it keeps them. Pieces join at its end.
 pub trait PieceList: Sized + Drop {
-    /// A place in a list, where a piece begins or ends.
+    /// A place in a list, where a piece begins or ends. Whoever sends places between threads asks
+    /// for `Place: Send`.
     type Place: Copy;
 
     /// It holds these pieces, in this order, and no other.
@@ -39,7 +40,8 @@ pub trait PieceList: Sized + Drop {
     fn end(&self) -> Self::Place
         ensures { (pieces : List OnePiece) → holds self.now pieces → is_behind pieces result };
 
-    /// Puts the pieces between two places of another list at the end.
+    /// Puts the pieces between two places of another list at the end. `NoMemory` where memory ran
+    /// out.
     fn append_between(
         &mut self,
         alloc: Global,
