@@ -8,3 +8,4 @@ pub mod Answered
 pub mod RingFacts
 pub mod PieceOrder
 pub mod Separated
+pub mod Parts

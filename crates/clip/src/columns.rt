@@ -49,7 +49,8 @@ pub trait PieceList: Sized + Drop {
     fn end(&self) -> Place
         ensures { (pieces : List OnePiece) → holds self.now pieces → is_behind pieces result };
 
-    /// Puts the pieces between two places of another list at the end.
+    /// Puts the pieces between two places of another list at the end. `NoMemory` where memory ran
+    /// out.
     fn append_between(
         &mut self,
         alloc: Global,
