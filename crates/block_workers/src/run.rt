@@ -134,11 +134,11 @@ fn joined<P: Drop, T: Drop>(
     } = ours;
     let Share {
         ticket: other,
-        part,
+        part: last,
         finished: mut more,
     } = theirs;
     rejoin(claims, &mut ticket, other);
-    parts.push(part)?;
+    parts.push(last)?;
     finished.append(&mut more)?;
     Ok(Shares {
         ticket,
