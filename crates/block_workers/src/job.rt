@@ -16,7 +16,7 @@ pub trait BlockJob: Sync {
     // How many blocks there are.
     ghost blocks: { Self → ℕ };
 
-    // Holds of each part, from the first block on.
+    // Holds of a part as `begin` makes it, and after each block.
     ghost is_part: { Self → Self.Part → Type 0 };
 
     // Holds of a part, of a block that was put in it, and of what is told of that block.
@@ -53,7 +53,7 @@ pub struct Placed<T> {
 /// The parts of all workers, and what was told of each block.
 #[derive(Drop)]
 pub struct Parts<P, T> {
-    /// One part for each worker.
+    /// One part for each worker, also for one that drew no block.
     pub parts: Vec<P>,
     /// What was told of the blocks, in the order of their numbers.
     pub blocks: Vec<Placed<T>>,

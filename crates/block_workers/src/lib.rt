@@ -6,6 +6,8 @@
 mod job;
 mod order;
 mod run;
+#[cfg(test)]
+mod tests;
 mod worker;
 
 pub use job::{BlockJob, Parts, Placed};

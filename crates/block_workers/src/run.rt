@@ -51,7 +51,7 @@ pub fn run_blocks<R: Threads, J: BlockJob>(
 }
 
 // One worker here, and each other one in a thread of its own, which is started by a join. The worker
-// of the first ticket has number 0, and that of the last further one `workers` - 1.
+// of the first ticket has number 0, and the others count down from `workers` - 1.
 fn spread<R: Threads, J: BlockJob>(
     rt: &R,
     alloc: Global,
@@ -134,11 +134,11 @@ fn joined<P: Drop, T: Drop>(
     } = ours;
     let Share {
         ticket: other,
-        part,
+        part: last,
         finished: mut more,
     } = theirs;
     rejoin(claims, &mut ticket, other);
-    parts.push(part)?;
+    parts.push(last)?;
     finished.append(&mut more)?;
     Ok(Shares {
         ticket,

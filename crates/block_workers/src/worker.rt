@@ -40,14 +40,11 @@ pub fn work<J: BlockJob>(
             break;
         };
         let output = job.run(alloc, block, &mut part)?;
-        let placed = Placed {
+        let output = Placed {
             part: number,
             output,
         };
-        finished.push(Finished {
-            block,
-            output: placed,
-        })?;
+        finished.push(Finished { block, output })?;
     }
     Ok(Share {
         ticket,
