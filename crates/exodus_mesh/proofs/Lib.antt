@@ -3,8 +3,11 @@ mod FirstPlaces
 mod Repeats
 mod Rows
 pub mod AcceptedFaces
+pub mod DocLengths
 pub mod FoundVars
 pub mod NodesAgain
+pub mod NumberVars
+mod NumberFaults
 pub mod ReadAgain
 pub mod ReadValues
 pub mod Unrepeated

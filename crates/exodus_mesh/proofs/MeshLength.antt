@@ -1,7 +1,5 @@
 -- How long the file of a mesh is, and that its document is well formed.
-use Rattle.std.proofs.Common.{◌≡◌, ◌≢◌, ◌+◌, ◌*◌, ◌-◌, ◌%◌, ◌≤◌, ◌<◌, ◌^◌, ◌==◌, ℕ, ℤ, zero, suc, false, cond, max, pos, List, [], ◌∷◌, ◌++◌, length, map, drop, fold, replicate, refl, ap, ap₂, sym, ◌∙◌, if◌then◌else◌, arith, mul-le-mul, lit<, lit≤, length-append, slice_index_or, slice_index, All, sum_by}
-use Rattle.std.proofs.lemmas.Bool.Decides.{nat_tests}
-use Rattle.std.proofs.Math.Nat.{mul-mod_right}
+use Rattle.std.proofs.Common.{◌≡◌, ◌≢◌, ◌+◌, ◌*◌, ◌-◌, ◌≤◌, ◌<◌, ◌^◌, ◌==◌, ℕ, ℤ, false, max, pos, List, [], ◌∷◌, ◌++◌, length, map, drop, fold, replicate, refl, ap, ap₂, sym, ◌∙◌, if◌then◌else◌, arith, mul-le-mul, lit<, lit≤, length-append, slice_index_or, slice_index, All, sum_by}
 use Rattle.std.proofs.lemmas.List.Sums.{sum_by-cons}
 use Rattle.std.proofs.lemmas.List.{length-replicate, length-map}
 use Rattle.std.proofs.lemmas.List.Elements.{All-from_recursion, All-head, All-tail}
@@ -10,24 +8,19 @@ use Rattle.vec_exact.specs.declared.RawMesh.{RawMesh}
 use Rattle.vec_exact.specs.Counts.{AreAllowedCounts}
 use Rattle.nc_write.specs.declared.DocVar.{DocVar}
 use Rattle.nc_write.specs.declared.NcDoc.{NcDoc}
-use Rattle.nc_write.specs.declared.Values.TheVariants.{Int}
-use Rattle.nc_write.specs.Kinds.{size_of}
-use Rattle.nc_write.specs.Extents.{rounded, product_of, has_records}
+use Rattle.nc_write.specs.Extents.{product_of, has_records}
 use Rattle.nc_write.specs.Widths.{width, number}
-use Rattle.nc_write.specs.File.{version_of, lens_of, kind_of, numbers_of, is_record, fixed_data, header_len, dimension, attribute, name, variable, file_of}
+use Rattle.nc_write.specs.File.{version_of, lens_of, numbers_of, is_record, fixed_data, header_len, dimension, attribute, name, variable, file_of}
 use Rattle.nc_write.specs.Form.{IsWellFormed, full_lens}
-use Rattle.nc_write.proofs.PartLengths.{length_variable, header_len_is}
-use Rattle.nc_write.proofs.Places.{length_fixed_data, length_file_of_fixed}
+use Rattle.nc_write.proofs.PartLengths.{header_len_is}
+use Rattle.nc_write.proofs.Places.{length_file_of_fixed}
+use Rattle.exodus_mesh.proofs.DocLengths.{width_is, var_length, ints_length, not_zero, not_none, full_len}
 use Rattle.exodus_mesh.proofs.Widths.{all_within, all_within_each}
 use Rattle.exodus_mesh.specs.MeshDocument.{component, filled, width_of, dimensions_of, coord_of, connect_of, mesh_document}
 
 version_is : (raw : RawMesh) → version_of (mesh_document raw) ≡ 2
 unfolding version_of mesh_document
 version_is raw = refl
-
-width_is : width 2 ≡ 4
-unfolding width
-width_is = refl
 
 dims_length : (n f w : ℕ) → length (flat_map (dimension 2) (dimensions_of n f w)) ≡ 120
 unfolding dimension name number width
@@ -44,9 +37,6 @@ connect_name faces w = refl
 sum_of_two : (f : DocVar → ℕ) (v w : DocVar) → sum_by f (v ∷ w ∷ []) ≡ f v + f w
 sum_of_two f v w = omega (arith, sum_by-cons f v (w ∷ []), sum_by-cons f w [])
 
-mod_four : (k : ℕ) → (4 * k) % 4 ≡ 0
-mod_four k = mul-mod_right 4 k
-
 parts_length : (doc : NcDoc) (coord connect : DocVar) → version_of doc ≡ 2 → length (flat_map (dimension 2) doc.dims) ≡ 120 → doc.atts ≡ [] → doc.vars ≡ coord ∷ connect ∷ []
     → length (name 2 coord.name) ≡ 12 → length (name 2 connect.name) ≡ 12 → length coord.dims ≡ 2 → length connect.dims ≡ 2 → header_len doc ≡ 248
 parts_length doc coord connect version dims atts vars coord_name connect_name coord_dims connect_dims =
@@ -62,14 +52,8 @@ parts_length doc coord connect version dims atts vars coord_name connect_name co
       no_atts,
       dims_are,
       vars_are,
-      length_variable 2 coord doc 0 (sym version),
-      length_variable 2 connect doc 0 (sym version),
-      ap (λ (n : ℕ). n * (length coord.dims + 3)) width_is,
-      ap (λ (n : ℕ). n * (length connect.dims + 3)) width_is,
-      coord_name,
-      connect_name,
-      coord_dims,
-      connect_dims,
+      var_length doc coord 12 2 version coord_name coord_dims,
+      var_length doc connect 12 2 version connect_name connect_dims,
     )
 
 header_is : (raw : RawMesh) → header_len (mesh_document raw) ≡ 248
@@ -77,10 +61,6 @@ unfolding mesh_document
 header_is raw =
     parts_length (mesh_document raw) (coord_of raw.nodes) (connect_of raw.faces (width_of raw.faces)) (version_is raw) (dims_length (length raw.nodes) (length raw.faces) (width_of raw.faces)) refl refl
     (coord_name raw.nodes) (connect_name raw.faces (width_of raw.faces)) refl refl
-
--- no padding behind values of four bytes
-rounded_four : (k : ℕ) → rounded (4 * k) ≡ 4 * k
-rounded_four k = omega (arith, mod_four k)
 
 -- each face takes as many numbers as the width
 length_filled : (w : ℕ) (faces : List (List ℤ)) → AllByRecursion (λ face. length face ≤ w) faces → length (flat_map (filled w) faces) ≡ length faces * w
@@ -105,16 +85,6 @@ length_components nodes =
       length-map nodes (λ t. slice_index_or t 1 (pos 0)),
       length-map nodes (λ t. slice_index_or t 2 (pos 0)),
     )
-
-not_zero : (n : ℕ) → 1 ≤ n → (n == 0) ≡ false
-not_zero n h = grind (arith, nat_tests)
-
-fixed_length : (doc : NcDoc) (v : DocVar) (zs : List ℤ) → is_record doc v ≡ false → v.values ≡ Int zs → length (fixed_data doc v) ≡ 4 * length zs
-fixed_length doc v zs fixed values =
-    length_fixed_data doc v
-    ∙ ap (λ b. cond b 0 (rounded (size_of (kind_of v.values) * length (numbers_of v.values)))) fixed
-    ∙ ap (λ vs. rounded (size_of (kind_of vs) * length (numbers_of vs))) values
-    ∙ rounded_four (length zs)
 
 coord_fixed : (raw : RawMesh) → is_record (mesh_document raw) (coord_of raw.nodes) ≡ false
 unfolding mesh_document has_records
@@ -144,10 +114,8 @@ length_mesh_file raw least =
       header_is raw,
       ap (λ l. sum_by (λ v. length (fixed_data doc v)) l) (vars_of raw),
       sum_of_two (λ v. length (fixed_data doc v)) coord connect,
-      fixed_length doc coord (component 0 raw.nodes ++ component 1 raw.nodes ++ component 2 raw.nodes) (coord_fixed raw) refl,
-      length_components raw.nodes,
-      fixed_length doc connect (flat_map (filled (width_of raw.faces)) raw.faces) (connect_fixed raw least) refl,
-      length_filled (width_of raw.faces) raw.faces (all_within_each raw.faces),
+      ints_length doc coord (component 0 raw.nodes ++ component 1 raw.nodes ++ component 2 raw.nodes) (3 * length raw.nodes) (coord_fixed raw) refl (length_components raw.nodes),
+      ints_length doc connect (flat_map (filled (width_of raw.faces)) raw.faces) (length raw.faces * width_of raw.faces) (connect_fixed raw least) refl (length_filled (width_of raw.faces) raw.faces (all_within_each raw.faces)),
     )
 
 -- a face that is not empty has a node
@@ -167,14 +135,6 @@ width_from a w (f ∷ fs) le each =
 -- and no greater than the greatest length of a face
 pub width_greatest : (faces : List (List ℤ)) (w : ℕ) → All (λ face. length face ≤ w) faces → width_of faces ≤ w
 width_greatest faces w each = width_from 0 w faces (omega arith) each
-
-not_none : (n : ℕ) → 1 ≤ n → n ≢ 0
-not_none n h e = absurd (omega (arith, h, e))
-
--- with no records the length of a dimension counts as it stands
-full_len : (n : ℕ) → (if n == 0 then 0 else n) ≡ n
-full_len zero = refl
-full_len (suc n) = ap (λ b. if b then 0 else suc n) (not_zero (suc n) (omega arith))
 
 -- at most one of the lengths is 0
 no_record_dimension : (nodes faces width : ℕ) → 1 ≤ nodes → 1 ≤ faces → 1 ≤ width → count_by (λ d. d.len == 0) (dimensions_of nodes faces width) ≤ 1

@@ -8,7 +8,8 @@ use Rattle.exodus_mesh.specs.declared.vars.CoordVars.TheVariants.{Whole}
 use Rattle.exodus_mesh.specs.MeshValues.{axis, node_at, nodes_of}
 use Rattle.exodus_mesh.proofs.Unrepeated.{take_front, drop_front}
 
-triple_is : (node : List ℤ) → length node ≡ 3 → slice_index_or node 0 (pos 0) ∷ slice_index_or node 1 (pos 0) ∷ slice_index_or node 2 (pos 0) ∷ [] ≡ node
+-- a list of three numbers is the triple of them
+pub triple_is : (node : List ℤ) → length node ≡ 3 → slice_index_or node 0 (pos 0) ∷ slice_index_or node 1 (pos 0) ∷ slice_index_or node 2 (pos 0) ∷ [] ≡ node
 triple_is [] h = absurd (omega (arith, h))
 triple_is (x ∷ []) h = absurd (omega (arith, h))
 triple_is (x ∷ y ∷ []) h = absurd (omega (arith, h))

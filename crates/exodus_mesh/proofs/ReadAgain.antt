@@ -1,9 +1,8 @@
 -- An accepted mesh is read again from the file of its document.
-use Rattle.std.proofs.Common.{◌≡◌, ◌≢◌, ◌≤◌, ◌==◌, ℕ, ℤ, pos, false, List, [], ◌∷◌, ◌++◌, length, All, Ok, refl, ap, ap₂, subst, ◌∙◌, arith, slice_index_or}
+use Rattle.std.proofs.Common.{◌≡◌, ◌≢◌, ◌≤◌, ℕ, ℤ, pos, List, [], ◌∷◌, ◌++◌, length, All, Ok, refl, ap, ap₂, subst, ◌∙◌, arith, slice_index_or}
 use Rattle.std.specs.List.{flat_map, sum_by}
 use Rattle.std.specs.Fmt.{digits}
 use Rattle.std.proofs.lemmas.Int.{ints}
-use Rattle.std.proofs.lemmas.Bool.Decides.{nat_tests}
 use Rattle.std.proofs.lemmas.List.Elements.{All-from_recursion}
 use Rattle.std.proofs.lemmas.List.{append-nil}
 use Rattle.vec_exact.specs.declared.RawMesh.{RawMesh}
@@ -25,9 +24,11 @@ use Rattle.exodus_mesh.specs.declared.vars.BlockVar.{BlockVar}
 use Rattle.exodus_mesh.specs.declared.vars.MeshVars.{MeshVars}
 use Rattle.exodus_mesh.specs.Names.{name_of, ◌>>=◌}
 use Rattle.exodus_mesh.specs.MeshDocument.{mesh_document, width_of, component, filled}
-use Rattle.exodus_mesh.specs.MeshNames.{int_lens, coord_in, nodes_in, whole_nodes, block_count_in, block_in, blocks_in, mesh_vars_in}
+use Rattle.exodus_mesh.specs.VarLens.{lens_at, var_lens}
+use Rattle.exodus_mesh.specs.MeshNames.{coord_in, nodes_in, whole_nodes, block_count_in, block_in, blocks_in, mesh_vars_in}
 use Rattle.exodus_mesh.specs.MeshValues.{mesh_of, nodes_of, faces_of}
 use Rattle.exodus_mesh.specs.MeshIn.{values_in, mesh_at, mesh_in, HasTriples}
+use Rattle.exodus_mesh.proofs.DocLengths.{not_zero}
 use Rattle.exodus_mesh.proofs.Widths.{all_within_each}
 use Rattle.exodus_mesh.proofs.MeshLength.{width_greatest, width_least, mesh_document_form}
 use Rattle.exodus_mesh.proofs.Unrepeated.{faces_again}
@@ -35,15 +36,12 @@ use Rattle.exodus_mesh.proofs.AcceptedFaces.{coords_fit, rows_fit, faces_unrepea
 use Rattle.exodus_mesh.proofs.NodesAgain.{nodes_again}
 use Rattle.exodus_mesh.proofs.ReadValues.{no_count_fault}
 
-not_zero : (n : ℕ) → 1 ≤ n → (n == 0) ≡ false
-not_zero n h = grind (arith, nat_tests)
-
 coord_is : (raw : RawMesh) → coord_in (header_of (mesh_document raw)) ≡ Ok (Whole 0)
 unfolding coord_in name_of mesh_document placed
 coord_is raw = refl
 
 whole_is : (raw : RawMesh) → 1 ≤ length raw.nodes → whole_nodes (header_of (mesh_document raw)) 0 ≡ Ok (length raw.nodes)
-unfolding whole_nodes int_lens mesh_document placed
+unfolding whole_nodes var_lens lens_at mesh_document placed
 whole_is raw some = rw (not_zero (length raw.nodes) some) refl
 
 count_is : (raw : RawMesh) → block_count_in (header_of (mesh_document raw)) ≡ Ok 1
@@ -55,7 +53,7 @@ abbrev block_of : RawMesh → BlockVar
 block_of raw = record { var = 1; faces = length raw.faces; width = width_of raw.faces }
 
 block_is : (raw : RawMesh) → 1 ≤ length raw.faces → 1 ≤ width_of raw.faces → block_in (header_of (mesh_document raw)) 1 ≡ Ok (block_of raw)
-unfolding block_in name_of int_lens mesh_document placed digits
+unfolding block_in name_of var_lens lens_at mesh_document placed digits
 block_is raw some wide = rw (not_zero (length raw.faces) some, not_zero (width_of raw.faces) wide) refl
 
 abbrev vars_of : RawMesh → MeshVars

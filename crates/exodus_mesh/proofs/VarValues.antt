@@ -2,7 +2,6 @@
 use Rattle.std.proofs.Common.{◌≡◌, ◌≢◌, ◌==◌, ◌<◌, ◌*◌, ◌/◌, ◌%◌, ℕ, zero, suc, false, if◌then◌else◌, List, [], ◌∷◌, length, map, drop, All, Some, slice_get, slice_index, refl, ap, ap₂, sym, subst, ◌∙◌, arith}
 use Rattle.std.proofs.Math.Nat.{mul-div_cancel, zero-mod}
 use Rattle.std.proofs.lemmas.Nat.{mul-mod_first}
-use Rattle.std.proofs.lemmas.Bool.Decides.{nat_tests}
 use Rattle.std.proofs.lemmas.List.Elements.{All-head, All-tail}
 use Rattle.std.proofs.lemmas.List.FromFn.{length-map-range_with_len}
 use Rattle.nc_write.specs.declared.NcKind.{NcKind}
@@ -16,12 +15,15 @@ use Rattle.nc_format.specs.Placing.{is_record_var, piece_len, part_of, IsPlaced}
 use Rattle.nc_format.specs.Header.{IsHeader}
 use Rattle.nc_format.specs.Numbers.{number_in, numbers_in, HasPieces, HasWholePieces, gathered}
 use Rattle.nc_format.proofs.Pieces.{gathered_len, header_has_pieces, header_is_placed}
+use Rattle.exodus_mesh.specs.declared.kinds.NumberKind.{NumberKind}
 use Rattle.exodus_mesh.specs.declared.vars.CoordVars.{CoordVars}
 use Rattle.exodus_mesh.specs.declared.vars.CoordVars.TheVariants.{Whole, Split}
 use Rattle.exodus_mesh.specs.declared.vars.BlockVar.{BlockVar}
 use Rattle.exodus_mesh.specs.MeshValues.{coord_lens, row_lens}
 use Rattle.exodus_mesh.specs.MeshIn.{numbers_of_var, values_in, coords_in, rows_in}
-use Rattle.exodus_mesh.specs.Found.{IsIntVar, AreCoordVars, IsBlockVar}
+use Rattle.exodus_mesh.specs.VarLens.{IsNumberVar}
+use Rattle.exodus_mesh.specs.Found.{AreCoordVars, IsBlockVar}
+use Rattle.exodus_mesh.proofs.NumberVars.{not_zero}
 
 -- what holds of all items holds of the one at a place
 pub got : {A : Type 0} (P : A → Type 0) (xs : List A) (k : ℕ) (x : A) → All P xs → slice_get xs k ≡ Some x → P x
@@ -52,9 +54,6 @@ unfolding product_of product
 product_is lens [] = refl
 product_is lens (id ∷ ids) = ap (λ n. slice_index lens id * n) (product_is lens ids)
 
-not_zero : (n : ℕ) → n ≢ 0 → (n == 0) ≡ false
-not_zero n h = grind (arith, nat_tests)
-
 -- no dimension is the record dimension: there is one piece, of all values
 fixed_ids : (lens ids : List ℕ) → All (λ n. n ≢ 0) (map (slice_index lens) ids) → (has_records lens ids ≡ false) × (piece_count lens ids ≡ product (map (slice_index lens) ids))
 unfolding has_records piece_count product
@@ -81,7 +80,7 @@ part_is f v h fixed =
     (one, h.part ∙ ap (λ n. part_of n (piece_len f.dims v)) one)
 
 -- a variable without the record dimension has as many numbers as the product of its lengths says
-pub values_len : (bytes : List ℕ) (file : NcFile) (lens : List ℕ) (place : ℕ) → IsHeader bytes (length bytes) file → IsIntVar file lens place → length (values_in file bytes place) ≡ product lens
+pub values_len : {kind : NumberKind} (bytes : List ℕ) (file : NcFile) (lens : List ℕ) (place : ℕ) → IsHeader bytes (length bytes) file → IsNumberVar kind file lens place → length (values_in file bytes place) ≡ product lens
 values_len bytes file lens place h i =
     let v = i.var in
     let pieces = got (HasWholePieces (length bytes)) file.vars place v (header_has_pieces bytes (length bytes) file h) i.there in
@@ -92,24 +91,30 @@ values_len bytes file lens place h i =
     let long : length (gathered v bytes) ≡ product lens * size_of v.kind = bytes_len v bytes pieces.inside ∙ ap₂ (λ (a b : ℕ). a * b) one.0 (one.1 ∙ ap (λ n. size_of v.kind * n) count) ∙ omega arith in
     ap (λ o. length (numbers_of_var bytes o)) i.there ∙ numbers_len v.kind (gathered v bytes) (product lens) long
 
-one_len : (n : ℕ) → product (n ∷ []) ≡ n
+one_factor : (n : ℕ) → product (n ∷ []) ≡ n
 unfolding product
-one_len n = omega arith
+one_factor n = omega arith
 
-two_len : (n m : ℕ) → product (n ∷ m ∷ []) ≡ n * m
+two_factors : (n m : ℕ) → product (n ∷ m ∷ []) ≡ n * m
 unfolding product
-two_len n m = ap (λ k. n * k) (omega arith)
+two_factors n m = ap (λ k. n * k) (omega arith)
+
+-- a variable of one dimension, and of two
+pub len_values : {kind : NumberKind} (bytes : List ℕ) (file : NcFile) (n place : ℕ) → IsHeader bytes (length bytes) file → IsNumberVar kind file (n ∷ []) place → length (values_in file bytes place) ≡ n
+len_values bytes file n place h i = values_len bytes file (n ∷ []) place h i ∙ one_factor n
+
+pub lens_values : {kind : NumberKind} (bytes : List ℕ) (file : NcFile) (n m place : ℕ) → IsHeader bytes (length bytes) file → IsNumberVar kind file (n ∷ m ∷ []) place → length (values_in file bytes place) ≡ n * m
+lens_values bytes file n m place h i = values_len bytes file (n ∷ m ∷ []) place h i ∙ two_factors n m
 
 pub coords_len : (bytes : List ℕ) (file : NcFile) (nodes : ℕ) (coord : CoordVars) → IsHeader bytes (length bytes) file → AreCoordVars file nodes coord → map length (coords_in file bytes coord) ≡ coord_lens coord nodes
-coords_len bytes file nodes (Whole c) h i = ap (λ n. n ∷ []) (values_len bytes file (3 ∷ nodes ∷ []) c h i ∙ two_len 3 nodes)
+coords_len bytes file nodes (Whole c) h i = ap (λ n. n ∷ []) (lens_values bytes file 3 nodes c h i)
 coords_len bytes file nodes (Split x y z) h i =
-    let each = λ (place : ℕ). λ (j : IsIntVar file (nodes ∷ []) place). values_len bytes file (nodes ∷ []) place h j ∙ one_len nodes in
-    ap₂ (λ n l. n ∷ l) (each x i.0) (ap₂ (λ n l. n ∷ l) (each y i.1) (ap (λ n. n ∷ []) (each z i.2)))
+    ap₂ (λ n l. n ∷ l) (len_values bytes file nodes x h i.0) (ap₂ (λ n l. n ∷ l) (len_values bytes file nodes y h i.1) (ap (λ n. n ∷ []) (len_values bytes file nodes z h i.2)))
 
 pub rows_len : (bytes : List ℕ) (file : NcFile) (blocks : List BlockVar) → IsHeader bytes (length bytes) file → All (IsBlockVar file) blocks → map length (rows_in file bytes blocks) ≡ row_lens blocks
 rows_len bytes file [] h all = refl
 rows_len bytes file (b ∷ bs) h all =
-    ap₂ (λ n l. n ∷ l) (values_len bytes file (b.faces ∷ b.width ∷ []) b.var h (All-head (IsBlockVar file) b bs all) ∙ two_len b.faces b.width)
+    ap₂ (λ n l. n ∷ l) (lens_values bytes file b.faces b.width b.var h (All-head (IsBlockVar file) b bs all))
     (rows_len bytes file bs h (All-tail (IsBlockVar file) b bs all))
 
 whole_times : (a b m : ℕ) → b % m ≡ 0 → (a * b) % m ≡ 0

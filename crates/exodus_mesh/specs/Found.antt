@@ -1,20 +1,19 @@
 -- What a look-up of names has found.
-use Rattle.std.specs.Prelude.{◌≡◌, ◌≢◌, ℕ, List, [], ◌∷◌, map, All, true, Some, slice_get, slice_index}
+use Rattle.std.specs.Prelude.{ℕ, List, [], ◌∷◌}
 use Rattle.nc_format.specs.declared.NcFile.{NcFile}
-use Rattle.nc_format.specs.declared.NcVar.{NcVar}
-use Rattle.nc_format.specs.Grammar.{lens_of}
-use Rattle.nc_format.specs.Numbers.{is_int}
+use Rattle.exodus_mesh.specs.declared.kinds.NumberKind.TheVariants.{Int}
 use Rattle.exodus_mesh.specs.declared.vars.CoordVars.{CoordVars}
 use Rattle.exodus_mesh.specs.declared.vars.CoordVars.TheVariants.{Whole, Split}
 use Rattle.exodus_mesh.specs.declared.vars.BlockVar.{BlockVar}
+use Rattle.exodus_mesh.specs.VarLens.{IsNumberVar}
 
 -- at this place stands a variable of type BYTE, SHORT or INT with these lengths, none of which is 0
-pub record IsIntVar (file : NcFile) (lens : List ℕ) (place : ℕ) : Type 0 where
-  pub var : NcVar
-  pub there : slice_get file.vars place ≡ Some var
-  pub whole : is_int var.kind ≡ true
-  pub shape : map (slice_index (lens_of file.dims)) var.dims ≡ lens
-  pub fixed : All (λ n. n ≢ 0) lens
+abbrev pub IsIntVar : NcFile → List ℕ → ℕ → Type 0
+IsIntVar file lens place = IsNumberVar Int file lens place
+
+-- the same, of some lengths
+abbrev pub IsSomeIntVar : NcFile → ℕ → Type 0
+IsSomeIntVar file place = (lens : List ℕ) × IsIntVar file lens place
 
 abbrev pub AreCoordVars : NcFile → ℕ → CoordVars → Type 0
 AreCoordVars file nodes (Whole coord) = IsIntVar file (3 ∷ nodes ∷ []) coord

@@ -1,5 +1,6 @@
 pub mod MeshDocument
 pub mod Names
+pub mod VarLens
 pub mod MeshNames
 pub mod MeshValues
 pub mod MeshIn

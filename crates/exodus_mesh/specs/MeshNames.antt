@@ -1,52 +1,25 @@
 -- The variables of a mesh in a file, or the first fault of names, in the order in which names and shapes are tested.
 -- Source: Exodus II for the names; the integer types and the order of faults are this project's own.
-use Rattle.std.specs.Prelude.{ℕ, suc, zero, List, [], ◌∷◌, ◌++◌, map, Option, Some, None, Result, Ok, Err, ◌==◌, if◌then◌else◌, slice_get, slice_index}
+use Rattle.std.specs.Prelude.{ℕ, suc, zero, List, [], ◌∷◌, ◌++◌, Option, Some, None, Result, Ok, Err, slice_index}
 use Rattle.std.specs.List.{sum_by}
 use Rattle.nc_format.specs.declared.NcFile.{NcFile}
-use Rattle.nc_format.specs.declared.NcVar.{NcVar}
 use Rattle.nc_format.specs.Grammar.{lens_of}
-use Rattle.nc_format.specs.Numbers.{is_int, dim_named, var_named}
+use Rattle.nc_format.specs.Numbers.{dim_named, var_named}
+use Rattle.exodus_mesh.specs.declared.kinds.NumberKind.TheVariants.{Int}
 use Rattle.exodus_mesh.specs.declared.ids.NameId.{NameId}
 use Rattle.exodus_mesh.specs.declared.ids.NameId.TheVariants.{Coord, CoordX, CoordY, CoordZ, NumElBlk, Connect}
 use Rattle.exodus_mesh.specs.declared.ids.NameFault.{NameFault}
-use Rattle.exodus_mesh.specs.declared.ids.NameFault.TheVariants.{Missing, Shape, Kind}
+use Rattle.exodus_mesh.specs.declared.ids.NameFault.TheVariants.{Missing}
 use Rattle.exodus_mesh.specs.declared.vars.CoordVars.{CoordVars}
 use Rattle.exodus_mesh.specs.declared.vars.CoordVars.TheVariants.{Whole, Split}
 use Rattle.exodus_mesh.specs.declared.vars.BlockVar.{BlockVar}
 use Rattle.exodus_mesh.specs.declared.vars.MeshVars.{MeshVars}
 use Rattle.exodus_mesh.specs.Names.{◌>>=◌, name_of, found_or}
+use Rattle.exodus_mesh.specs.VarLens.{one_len, same_len, var_len, var_lens}
 
 -- the place of the first variable of a name, from 0
 abbrev pub place_of : NcFile → NameId → Option ℕ
 place_of file id = var_named file.vars (name_of [] id)
-
--- the type is BYTE, SHORT or INT
-abbrev pub of_int : NameId → NcVar → Result NcVar NameFault
-of_int id v = if is_int v.kind then Ok v else Err (Kind id)
-
--- the lengths of the dimensions of the variable at a place, whose type is BYTE, SHORT or INT
-unfoldable pub int_lens : NcFile → NameId → ℕ → Result (List ℕ) NameFault
-int_lens file id place = do
-  v ← found_or (Missing id) (slice_get file.vars place)
-  good ← of_int id v
-  Ok (map (slice_index (lens_of file.dims)) good.dims)
-
--- one dimension, which is not the record dimension: its length
-abbrev pub one_len : NameId → List ℕ → Result ℕ NameFault
-one_len id [] = Err (Shape id)
-one_len id (n ∷ []) = if n == 0 then Err (Shape id) else Ok n
-one_len id (n ∷ m ∷ more) = Err (Shape id)
-
--- two dimensions, none of which is the record dimension: their lengths
-abbrev pub two_lens : NameId → List ℕ → Result (ℕ × ℕ) NameFault
-two_lens id [] = Err (Shape id)
-two_lens id (n ∷ []) = Err (Shape id)
-two_lens id (n ∷ m ∷ []) = if n == 0 then Err (Shape id) else (if m == 0 then Err (Shape id) else Ok (n, m))
-two_lens id (n ∷ m ∷ k ∷ more) = Err (Shape id)
-
--- this length, and no other
-abbrev pub same_len : NameId → ℕ → ℕ → Result ℕ NameFault
-same_len id wanted n = if n == wanted then Ok n else Err (Shape id)
 
 -- 1. A file with `coord` is read by it, and any other by `coordx`, `coordy` and `coordz`.
 abbrev pub coord_by : Option ℕ → Option ℕ → Option ℕ → Option ℕ → Result CoordVars NameFault
@@ -62,24 +35,17 @@ coord_in file = coord_by (place_of file Coord) (place_of file CoordX) (place_of 
 -- 2. `coord` has two lengths: 3, and the node count.
 unfoldable pub whole_nodes : NcFile → ℕ → Result ℕ NameFault
 whole_nodes file coord = do
-  lens ← int_lens file Coord coord
-  both ← two_lens Coord lens
+  both ← var_lens file Int Coord coord
   three ← same_len Coord 3 both.0
   Ok both.1
-
--- the one length of the variable at a place, whose type is BYTE, SHORT or INT
-unfoldable pub axis_len : NcFile → NameId → ℕ → Result ℕ NameFault
-axis_len file id place = do
-  lens ← int_lens file id place
-  one_len id lens
 
 -- 3. `coordx`, `coordy` and `coordz` each have one length, the node count.
 unfoldable pub split_nodes : NcFile → ℕ → ℕ → ℕ → Result ℕ NameFault
 split_nodes file x y z = do
-  nodes ← axis_len file CoordX x
-  along_y ← axis_len file CoordY y
+  nodes ← var_len file Int CoordX x
+  along_y ← var_len file Int CoordY y
   same_y ← same_len CoordY nodes along_y
-  along_z ← axis_len file CoordZ z
+  along_z ← var_len file Int CoordZ z
   same_len CoordZ nodes along_z
 
 abbrev pub nodes_in : NcFile → CoordVars → Result ℕ NameFault
@@ -96,8 +62,7 @@ block_count_in file = do
 unfoldable pub block_in : NcFile → ℕ → Result BlockVar NameFault
 block_in file n = do
   place ← found_or (Missing (Connect n)) (place_of file (Connect n))
-  lens ← int_lens file (Connect n) place
-  both ← two_lens (Connect n) lens
+  both ← var_lens file Int (Connect n) place
   Ok (record { var = place; faces = both.0; width = both.1 })
 
 -- the first n blocks

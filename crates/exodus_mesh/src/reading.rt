@@ -1,9 +1,9 @@
 // The mesh of a whole file.
-ghost use Rattle.std.specs.Prelude.{◌≡◌, ℕ, length, All, IfOk, OnOk, Ok, ◌++◌, ◌∷◌, [], List};
+ghost use Rattle.std.specs.Prelude.{◌≡◌, ℕ, length, All, IfOk, OnOk, Ok, ◌++◌, ◌∷◌, []};
 ghost use Rattle.vec_exact.specs.Counts.{AreAllowedCounts};
 ghost use Rattle.nc_format.specs.Header.{IsHeader};
 ghost use Rattle.exodus_mesh.specs.MeshNames.{mesh_vars_in};
-ghost use Rattle.exodus_mesh.specs.Found.{IsIntVar, AreCoordVars, IsBlockVar};
+ghost use Rattle.exodus_mesh.specs.Found.{IsSomeIntVar, AreCoordVars, IsBlockVar};
 ghost use Rattle.exodus_mesh.specs.MeshIn.{values_in, coords_in, rows_in, mesh_at, mesh_in};
 
 use crate::variables::var_at;
@@ -12,10 +12,10 @@ use nc_format::{NcFile, gather, int_values};
 use std::alloc::{AllocError, Global};
 use vec_exact::{Ints, NoMemory, RawMesh};
 
-// The numbers of the variable at a place.
-fn values(alloc: Global, file: &NcFile, bytes: &[u8], place: u32) -> Result<Ints, NoMemory>
+/// The numbers of the variable at a place, in row-major order. Its only error is want of memory.
+pub fn read_ints(alloc: Global, file: &NcFile, bytes: &[u8], place: u32) -> Result<Ints, NoMemory>
     requires header { IsHeader bytes.now (length bytes.now) file.now }
-    requires var { (lens : List ℕ) × IsIntVar file.now lens place }
+    requires var { IsSomeIntVar file.now place }
     ensures { IfOk result (λ ints. ints ≡ values_in file.now bytes.now place) }
 {
     let Some(var) = var_at(file, place) else {
@@ -41,12 +41,12 @@ fn coords(
     let mut lists = Vec::new(alloc);
     match coord {
         CoordVars::Whole(coord) => {
-            push(&mut lists, values(alloc, file, bytes, coord)?)?;
+            push(&mut lists, read_ints(alloc, file, bytes, coord)?)?;
         }
         CoordVars::Split(x, y, z) => {
-            push(&mut lists, values(alloc, file, bytes, x)?)?;
-            push(&mut lists, values(alloc, file, bytes, y)?)?;
-            push(&mut lists, values(alloc, file, bytes, z)?)?;
+            push(&mut lists, read_ints(alloc, file, bytes, x)?)?;
+            push(&mut lists, read_ints(alloc, file, bytes, y)?)?;
+            push(&mut lists, read_ints(alloc, file, bytes, z)?)?;
         }
     }
     Ok(lists)
@@ -64,7 +64,7 @@ fn rows(
 {
     let mut lists = Vec::new(alloc);
     for block in blocks {
-        push(&mut lists, values(alloc, file, bytes, block.var)?)?;
+        push(&mut lists, read_ints(alloc, file, bytes, block.var)?)?;
     }
     Ok(lists)
 }

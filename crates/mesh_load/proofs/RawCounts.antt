@@ -15,10 +15,12 @@ use Rattle.exodus_mesh.specs.declared.ids.NameFault.TheVariants.{Missing, Shape}
 use Rattle.exodus_mesh.specs.declared.vars.BlockVar.{BlockVar}
 use Rattle.exodus_mesh.specs.declared.vars.MeshVars.{MeshVars}
 use Rattle.exodus_mesh.specs.Names.{◌>>=◌, name_of, found_or}
-use Rattle.exodus_mesh.specs.MeshNames.{one_len, coord_in, nodes_in, block_count_in, block_in, blocks_in, mesh_vars_in}
+use Rattle.exodus_mesh.specs.VarLens.{one_len}
+use Rattle.exodus_mesh.specs.MeshNames.{coord_in, nodes_in, block_count_in, block_in, blocks_in, mesh_vars_in}
 use Rattle.exodus_mesh.specs.MeshValues.{axis, node_at, face_of_row, rows_of, block_faces, faces_of, row_lens, mesh_of}
 use Rattle.exodus_mesh.specs.Found.{IsBlockVar}
-use Rattle.exodus_mesh.proofs.FoundVars.{AreMeshVars, mesh_vars_ok, value_ok, ok_same}
+use Rattle.exodus_mesh.proofs.FoundVars.{AreMeshVars, mesh_vars_ok}
+use Rattle.exodus_mesh.proofs.NumberVars.{value_ok, ok_same}
 
 rows_count : (n width : ℕ) (numbers : List ℤ) → length (rows_of n width numbers) ≡ n
 rows_count zero width numbers = refl

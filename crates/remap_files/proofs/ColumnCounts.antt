@@ -5,10 +5,9 @@ use Rattle.std.proofs.lemmas.List.Elements.{recursion_from_All}
 use Rattle.clip.specs.declared.pieces.Piece.{Piece}
 use Rattle.clip.specs.declared.columns.Columns.{Columns}
 use Rattle.clip.specs.Overlaps.{OverlapParts}
-use Rattle.remap_files.specs.Written.{HasSmallNumbers}
 use Rattle.remap_files.specs.InColumns.{IsInColumns}
-use Rattle.remap_files.specs.OverlapDocument.{corner_count_of}
-use Rattle.remap_files.proofs.OverlapLength.{all_small, greatest_count, length_planes}
+use Rattle.remap_files.specs.OverlapDocument.{HasRingSize, corner_count_of}
+use Rattle.remap_files.proofs.OverlapLength.{ring_sizes, greatest_count, length_planes}
 
 pub record HasCounts (o : OverlapParts) (faces_a faces_b : ℕ) (c : Columns) : Type 0 where
   pub pieces : length c.sources.items ≡ length o.pieces
@@ -23,7 +22,7 @@ column_counts o faces_a faces_b c h = record {
   pieces = ap length h.pieces.sources ∙ length-map o.pieces (λ (p : Piece). pos p.a);
   corners = ap length h.pieces.ring_planes ∙ length_planes o.pieces;
   few = h.sound.count;
-  most = greatest_count o.pieces (recursion_from_All HasSmallNumbers o.pieces (all_small o h.sound));
+  most = greatest_count o.pieces (recursion_from_All HasRingSize o.pieces (ring_sizes o h.sound));
   source = omega (arith, h.sound.source_faces.1, h.source_faces);
   target = omega (arith, h.sound.target_faces.1, h.target_faces);
 }

@@ -1,91 +1,25 @@
 -- Where names are found, the counts are within their limits, and each variable has the type and the lengths that an overlap has.
-use Rattle.std.proofs.Common.{◌≡◌, ◌≢◌, ◌==◌, ◌≤◌, ◌*◌, ℕ, Bool, true, false, if◌then◌else◌, List, [], ◌∷◌, length, map, All, Result, Ok, Err, slice_get, slice_index, refl, ap, ap₂, sym, subst, ◌∙◌, arith, unsigned_abs}
-use Rattle.std.proofs.lemmas.Bool.Decides.{nat_tests}
+use Rattle.std.proofs.Common.{◌≡◌, ◌==◌, ◌≤◌, ◌*◌, ℕ, Bool, true, false, if◌then◌else◌, List, [], ◌∷◌, length, map, All, Result, Ok, Err, refl, ap, ap₂, sym, subst, ◌∙◌, arith, unsigned_abs}
 use Rattle.std.proofs.lemmas.List.Elements.{All-from_recursion}
 use Rattle.clip.specs.Overlaps.{IsFaceCount}
 use Rattle.nc_format.specs.declared.NcFile.{NcFile}
-use Rattle.nc_format.specs.declared.NcVar.{NcVar}
-use Rattle.nc_format.specs.Grammar.{lens_of}
 use Rattle.nc_format.specs.Header.{IsHeader}
-use Rattle.nc_format.specs.Numbers.{is_int}
+use Rattle.exodus_mesh.specs.declared.kinds.NumberKind.TheVariants.{Int}
 use Rattle.exodus_mesh.specs.declared.ids.NameId.{NameId}
 use Rattle.exodus_mesh.specs.declared.ids.NameId.TheVariants.{FacesA, FacesB, Pieces, Source, Target, RingSize, RingPlane, Corner}
 use Rattle.exodus_mesh.specs.declared.ids.NameFault.{NameFault}
-use Rattle.exodus_mesh.specs.declared.ids.NameFault.TheVariants.{Missing, Shape, Kind}
-use Rattle.exodus_mesh.specs.declared.vars.CoordVars.TheVariants.{Split}
-use Rattle.exodus_mesh.specs.declared.vars.BlockVar.{BlockVar}
+use Rattle.exodus_mesh.specs.declared.ids.NameFault.TheVariants.{Missing, Shape}
 use Rattle.exodus_mesh.specs.Names.{◌>>=◌, found_or}
-use Rattle.exodus_mesh.specs.MeshNames.{place_of, of_int, int_lens, one_len, two_lens, same_len, axis_len}
-use Rattle.exodus_mesh.specs.Found.{IsIntVar}
-use Rattle.exodus_mesh.proofs.FoundVars.{value_ok, ok_same, found_ok}
-use Rattle.exodus_mesh.proofs.VarValues.{coords_len, rows_len}
+use Rattle.exodus_mesh.specs.VarLens.{same_len, var_len, var_lens}
+use Rattle.exodus_mesh.specs.MeshNames.{place_of}
+use Rattle.exodus_mesh.specs.Found.{IsIntVar, IsSomeIntVar}
+use Rattle.exodus_mesh.proofs.NumberVars.{value_ok, ok_same, if_ok, var_len_ok, var_lens_ok, same_ok}
+use Rattle.exodus_mesh.proofs.VarValues.{len_values, lens_values}
 use Rattle.remap_files.specs.declared.vars.OverlapVars.{OverlapVars}
-use Rattle.remap_files.specs.Found.{IsSomeIntVar}
 use Rattle.remap_files.specs.OverlapNames.{is_within, att_in, count_in, column_in, planes_in, corner_in, five_in, no_vars, overlap_vars_in}
 use Rattle.remap_files.specs.OverlapRows.{overlap_lens}
 use Rattle.remap_files.specs.OverlapIn.{lists_in}
 use Rattle.remap_files.proofs.GoodRows.{within}
-
-if_ok : {A : Type 0} (b : Bool) (x y : A) (e : NameFault) → (let r : Result A NameFault = if b then Ok x else Err e in r ≡ Ok y) → (b ≡ true) × (x ≡ y)
-if_ok true x y e h = (refl, ok_same x y h)
-if_ok false x y e h = absurd cc
-
-if_err : {A : Type 0} (b : Bool) (y : A) (e : NameFault) (r : Result A NameFault) → (if b then Err e else r) ≡ Ok y → (b ≡ false) × (r ≡ Ok y)
-if_err true y e r h = absurd cc
-if_err false y e r h = (refl, h)
-
-not_none : (n : ℕ) → (n == 0) ≡ false → n ≢ 0
-not_none n h e = absurd (grind (arith, nat_tests))
-
-one_ok : (id : NameId) (lens : List ℕ) (n : ℕ) → one_len id lens ≡ Ok n → (lens ≡ n ∷ []) × (n ≢ 0)
-one_ok id [] n h = absurd cc
-one_ok id (m ∷ []) n h =
-    let p = if_err (m == 0) n (Shape id) (Ok m) h in
-    let same : m ≡ n = ok_same m n p.1 in
-    (ap (λ k. k ∷ []) same, subst (λ (k : ℕ). k ≢ 0) same (not_none m p.0))
-one_ok id (m ∷ k ∷ more) n h = absurd cc
-
-two_ok : (id : NameId) (lens : List ℕ) (both : ℕ × ℕ) → two_lens id lens ≡ Ok both → (lens ≡ both.0 ∷ both.1 ∷ []) × (both.0 ≢ 0) × (both.1 ≢ 0)
-two_ok id [] both h = absurd cc
-two_ok id (m ∷ []) both h = absurd cc
-two_ok id (m ∷ k ∷ []) both h =
-    let p = if_err (m == 0) both (Shape id) (if k == 0 then Err (Shape id) else Ok (m, k)) h in
-    let q = if_err (k == 0) both (Shape id) (Ok (m, k)) p.1 in
-    let same : (let pair : ℕ × ℕ = (m, k) in pair ≡ both) = ok_same (m, k) both q.1 in
-    (ap (λ (pair : ℕ × ℕ). pair.0 ∷ pair.1 ∷ []) same, subst (λ (pair : ℕ × ℕ). pair.0 ≢ 0) same (not_none m p.0), subst (λ (pair : ℕ × ℕ). pair.1 ≢ 0) same (not_none k q.0))
-two_ok id (m ∷ k ∷ l ∷ more) both h = absurd cc
-
--- a variable with these lengths, none of which is 0
-int_ok : (file : NcFile) (id : NameId) (place : ℕ) (lens wanted : List ℕ) → int_lens file id place ≡ Ok lens → lens ≡ wanted → All (λ n. n ≢ 0) wanted → IsIntVar file wanted place
-unfolding int_lens
-int_ok file id place lens wanted h same fixed =
-    let p = value_ok (found_or (Missing id) (slice_get file.vars place)) (λ v. of_int id v >>= λ good. Ok (map (slice_index (lens_of file.dims)) good.dims)) lens h in
-    let q = value_ok (of_int id p.0) (λ good. Ok (map (slice_index (lens_of file.dims)) good.dims)) lens p.2 in
-    let good = if_ok (is_int (p.0).kind) p.0 q.0 (Kind id) q.1 in
-    let shape : map (slice_index (lens_of file.dims)) (q.0).dims ≡ lens = ok_same (map (slice_index (lens_of file.dims)) (q.0).dims) lens q.2 in
-    record {
-      var = p.0;
-      there = found_ok (Missing id) (slice_get file.vars place) p.0 p.1;
-      whole = good.0;
-      shape = ap (λ (v : NcVar). map (slice_index (lens_of file.dims)) v.dims) good.1 ∙ shape ∙ same;
-      fixed = fixed;
-    }
-
-one_fixed : (n : ℕ) → n ≢ 0 → All (λ m. m ≢ 0) (n ∷ [])
-one_fixed n h = All-from_recursion (λ m. m ≢ 0) (n ∷ []) (h, tt)
-
-two_fixed : (n m : ℕ) → n ≢ 0 → m ≢ 0 → All (λ k. k ≢ 0) (n ∷ m ∷ [])
-two_fixed n m h k = All-from_recursion (λ l. l ≢ 0) (n ∷ m ∷ []) (h, (k, tt))
-
-axis_ok : (file : NcFile) (id : NameId) (place n : ℕ) → axis_len file id place ≡ Ok n → IsIntVar file (n ∷ []) place
-unfolding axis_len
-axis_ok file id place n h =
-    let p = value_ok (int_lens file id place) (λ lens. one_len id lens) n h in
-    let one = one_ok id p.0 n p.2 in
-    int_ok file id place p.0 (n ∷ []) p.1 one.0 (one_fixed n one.1)
-
-same_ok : (id : NameId) (wanted n m : ℕ) → same_len id wanted n ≡ Ok m → n ≡ wanted
-same_ok id wanted n m h = let p = if_ok (n == wanted) n m (Shape id) h in grind (arith, nat_tests, p.0)
 
 count_ok : (low high : ℕ) (file : NcFile) (id : NameId) (n : ℕ) → count_in low high file id ≡ Ok n → (low ≤ n) × (n ≤ high)
 unfolding count_in
@@ -98,34 +32,31 @@ count_ok low high file id n h =
 column_ok : (file : NcFile) (pieces : ℕ) (id : NameId) (place : ℕ) → column_in file pieces id ≡ Ok place → IsIntVar file (pieces ∷ []) place
 unfolding column_in
 column_ok file pieces id place h =
-    let p = value_ok (found_or (Missing id) (place_of file id)) (λ at. axis_len file id at >>= λ len. same_len id pieces len >>= λ same. Ok at) place h in
-    let q = value_ok (axis_len file id p.0) (λ len. same_len id pieces len >>= λ same. Ok p.0) place p.2 in
+    let p = value_ok (found_or (Missing id) (place_of file id)) (λ at. var_len file Int id at >>= λ len. same_len id pieces len >>= λ same. Ok at) place h in
+    let q = value_ok (var_len file Int id p.0) (λ len. same_len id pieces len >>= λ same. Ok p.0) place p.2 in
     let r = value_ok (same_len id pieces q.0) (λ same. Ok p.0) place q.2 in
-    let len : q.0 ≡ pieces = same_ok id pieces q.0 r.0 r.1 in
-    subst (λ (k : ℕ). IsIntVar file (pieces ∷ []) k) (ok_same p.0 place r.2) (subst (λ (n : ℕ). IsIntVar file (n ∷ []) p.0) len (axis_ok file id p.0 q.0 q.1))
+    let len : q.0 ≡ pieces = (same_ok id pieces q.0 r.0 r.1).0 in
+    subst (λ (k : ℕ). IsIntVar file (pieces ∷ []) k) (ok_same p.0 place r.2) (subst (λ (n : ℕ). IsIntVar file (n ∷ []) p.0) len (var_len_ok file Int id p.0 q.0 q.1))
 
 planes_ok : (file : NcFile) (both : ℕ × ℕ) → planes_in file ≡ Ok both → IsIntVar file (both.1 ∷ []) both.0
 unfolding planes_in
 planes_ok file both h =
-    let p = value_ok (found_or (Missing RingPlane) (place_of file RingPlane)) (λ place. axis_len file RingPlane place >>= λ len. Ok (place, len)) both h in
-    let q = value_ok (axis_len file RingPlane p.0) (λ len. Ok (p.0, len)) both p.2 in
+    let p = value_ok (found_or (Missing RingPlane) (place_of file RingPlane)) (λ place. var_len file Int RingPlane place >>= λ len. Ok (place, len)) both h in
+    let q = value_ok (var_len file Int RingPlane p.0) (λ len. Ok (p.0, len)) both p.2 in
     let same : (let pair : ℕ × ℕ = (p.0, q.0) in pair ≡ both) = ok_same (p.0, q.0) both q.2 in
-    subst (λ (pair : ℕ × ℕ). IsIntVar file (pair.1 ∷ []) pair.0) same (axis_ok file RingPlane p.0 q.0 q.1)
+    subst (λ (pair : ℕ × ℕ). IsIntVar file (pair.1 ∷ []) pair.0) same (var_len_ok file Int RingPlane p.0 q.0 q.1)
 
 corner_ok : (file : NcFile) (corners place : ℕ) → corner_in file corners ≡ Ok place → IsIntVar file (corners ∷ 3 ∷ []) place
 unfolding corner_in
 corner_ok file corners place h =
-    let p = value_ok (found_or (Missing Corner) (place_of file Corner)) (λ at. int_lens file Corner at >>= λ lens. two_lens Corner lens >>= λ both. same_len Corner corners both.0 >>= λ same. same_len Corner 3 both.1 >>= λ three. Ok at) place h in
-    let q = value_ok (int_lens file Corner p.0) (λ lens. two_lens Corner lens >>= λ both. same_len Corner corners both.0 >>= λ same. same_len Corner 3 both.1 >>= λ three. Ok p.0) place p.2 in
-    let r = value_ok (two_lens Corner q.0) (λ both. same_len Corner corners both.0 >>= λ same. same_len Corner 3 both.1 >>= λ three. Ok p.0) place q.2 in
-    let s = value_ok (same_len Corner corners (r.0).0) (λ same. same_len Corner 3 (r.0).1 >>= λ three. Ok p.0) place r.2 in
-    let t = value_ok (same_len Corner 3 (r.0).1) (λ three. Ok p.0) place s.2 in
-    let two = two_ok Corner q.0 r.0 r.1 in
-    let first : (r.0).0 ≡ corners = same_ok Corner corners (r.0).0 s.0 s.1 in
-    let second : (r.0).1 ≡ 3 = same_ok Corner 3 (r.0).1 t.0 t.1 in
-    let lens : q.0 ≡ corners ∷ 3 ∷ [] = two.0 ∙ ap₂ (λ (n m : ℕ). n ∷ m ∷ []) first second in
-    subst (λ (k : ℕ). IsIntVar file (corners ∷ 3 ∷ []) k) (ok_same p.0 place t.2)
-    (int_ok file Corner p.0 q.0 (corners ∷ 3 ∷ []) q.1 lens (two_fixed corners 3 (subst (λ (n : ℕ). n ≢ 0) first two.1) (λ e. absurd cc)))
+    let p = value_ok (found_or (Missing Corner) (place_of file Corner)) (λ at. var_lens file Int Corner at >>= λ both. same_len Corner corners both.0 >>= λ same. same_len Corner 3 both.1 >>= λ three. Ok at) place h in
+    let q = value_ok (var_lens file Int Corner p.0) (λ both. same_len Corner corners both.0 >>= λ same. same_len Corner 3 both.1 >>= λ three. Ok p.0) place p.2 in
+    let r = value_ok (same_len Corner corners (q.0).0) (λ same. same_len Corner 3 (q.0).1 >>= λ three. Ok p.0) place q.2 in
+    let s = value_ok (same_len Corner 3 (q.0).1) (λ three. Ok p.0) place r.2 in
+    let first : (q.0).0 ≡ corners = (same_ok Corner corners (q.0).0 r.0 r.1).0 in
+    let second : (q.0).1 ≡ 3 = (same_ok Corner 3 (q.0).1 s.0 s.1).0 in
+    let lens : (q.0).0 ∷ (q.0).1 ∷ [] ≡ corners ∷ 3 ∷ [] = ap₂ (λ (n m : ℕ). n ∷ m ∷ []) first second in
+    subst (λ (k : ℕ). IsIntVar file (corners ∷ 3 ∷ []) k) (ok_same p.0 place s.2) (subst (λ (l : List ℕ). IsIntVar file l p.0) lens (var_lens_ok file Int Corner p.0 q.0 q.1))
 
 -- what the counts and the variables of an overlap are
 pub record AreOverlapVars (file : NcFile) (v : OverlapVars) : Type 0 where
@@ -143,23 +74,15 @@ record AreFive (file : NcFile) (pieces corners source target size plane corner :
   pub is_plane : IsIntVar file (corners ∷ []) plane
   pub is_corner : IsIntVar file (corners ∷ 3 ∷ []) corner
 
--- the variables of the corners as a block of rows of three
-abbrev triples : ℕ → ℕ → BlockVar
-triples corners place = record { var = place; faces = corners; width = 3 }
-
 five_lens : (file : NcFile) (pieces corners source target size plane corner : ℕ) → AreFive file pieces corners source target size plane corner → (bytes : List ℕ) → IsHeader bytes (length bytes) file
     → map length (lists_in file bytes (source ∷ target ∷ size ∷ plane ∷ corner ∷ [])) ≡ pieces ∷ pieces ∷ pieces ∷ corners ∷ 3 * corners ∷ []
 five_lens file pieces corners source target size plane corner f bytes h =
-    let columns = coords_len bytes file pieces (Split source target size) h (f.is_source, f.is_target, f.is_size) in
-    let planes = coords_len bytes file corners (Split plane plane plane) h (f.is_plane, f.is_plane, f.is_plane) in
     let thrice : corners * 3 ≡ 3 * corners = omega arith in
-    let rows = rows_len bytes file (triples corners corner ∷ []) h (All-from_recursion (λ (b : BlockVar). IsIntVar file (b.faces ∷ b.width ∷ []) b.var) (triples corners corner ∷ []) (f.is_corner, tt)) in
-    let at = λ (l : List ℕ) (k : ℕ). slice_index l k in
-    let first = ap (λ l. at l 0) columns in
-    let second = ap (λ l. at l 1) columns in
-    let third = ap (λ l. at l 2) columns in
-    let fourth = ap (λ l. at l 0) planes in
-    let fifth = ap (λ l. at l 0) rows ∙ thrice in
+    let first = len_values bytes file pieces source h f.is_source in
+    let second = len_values bytes file pieces target h f.is_target in
+    let third = len_values bytes file pieces size h f.is_size in
+    let fourth = len_values bytes file corners plane h f.is_plane in
+    let fifth = lens_values bytes file corners 3 corner h f.is_corner ∙ thrice in
     ap₂ (λ n l. n ∷ l) first (ap₂ (λ n l. n ∷ l) second (ap₂ (λ n l. n ∷ l) third (ap₂ (λ n l. n ∷ l) fourth (ap (λ n. n ∷ []) fifth))))
 
 some_pieces : (pieces : ℕ) (l : List ℕ) → (pieces == 0) ≡ false → (if pieces == 0 then [] else l) ≡ l

@@ -23,15 +23,16 @@ use Rattle.nc_format.proofs.Gathered.{doc_values}
 use Rattle.exodus_mesh.specs.declared.ids.NameId.{NameId}
 use Rattle.exodus_mesh.specs.declared.ids.NameId.TheVariants.{FacesA, FacesB, Pieces, Source, Target, RingSize}
 use Rattle.exodus_mesh.specs.Names.{name_of}
-use Rattle.exodus_mesh.specs.MeshNames.{int_lens, axis_len}
+use Rattle.exodus_mesh.specs.VarLens.{lens_at, var_len, var_lens}
 use Rattle.remap_files.specs.declared.vars.OverlapVars.{OverlapVars}
 use Rattle.clip.specs.Columns.{source_column, target_column, ring_size_column, ring_numbers, ring_plane_column, triple_of, corner_numbers, corner_column}
-use Rattle.remap_files.specs.OverlapDocument.{attribute_of, corner_count_of, overlap_document, IsCorner, HasCorners}
+use Rattle.remap_files.specs.OverlapDocument.{attribute_of, corner_count_of, overlap_document, IsCorner, HasCorners, HasRingSize}
 use Rattle.remap_files.specs.OverlapNames.{is_within, att_in, count_in, column_in, planes_in, corner_in, five_in, no_vars, overlap_vars_in}
 use Rattle.remap_files.specs.OverlapRows.{overlap_of}
 use Rattle.remap_files.specs.OverlapIn.{lists_in, overlap_in}
-use Rattle.remap_files.proofs.Triples.{triple_is}
-use Rattle.remap_files.proofs.OverlapLength.{parts_of, not_zero, all_small, least_count, overlap_document_form}
+use Rattle.exodus_mesh.proofs.NodesAgain.{triple_is}
+use Rattle.remap_files.proofs.OverlapLength.{parts_of, all_small, ring_sizes, least_count, overlap_document_form}
+use Rattle.exodus_mesh.proofs.DocLengths.{not_zero}
 use Rattle.remap_files.proofs.RowFaults.{overlap_is, no_rows}
 use Rattle.remap_files.proofs.RowsAgain.{vars_of, rows_no_fault, pieces_again}
 use Rattle.remap_files.proofs.ReadOverlaps.{overlap_in_is}
@@ -74,23 +75,23 @@ abbrev file_for : ℕ → ℕ → Piece → List Piece → NcFile
 file_for faces_a faces_b p ps = header_of (overlap_document (parts_of faces_a faces_b (p ∷ ps)))
 
 source_again : (faces_a faces_b : ℕ) (p : Piece) (ps : List Piece) → column_in (file_for faces_a faces_b p ps) (length (p ∷ ps)) Source ≡ Ok 0
-unfolding column_in axis_len int_lens name_of overlap_document placed
+unfolding column_in var_len lens_at name_of overlap_document placed
 source_again faces_a faces_b p ps = rw (not_zero (length (p ∷ ps)) (omega arith), same_true (length (p ∷ ps))) refl
 
 target_again : (faces_a faces_b : ℕ) (p : Piece) (ps : List Piece) → column_in (file_for faces_a faces_b p ps) (length (p ∷ ps)) Target ≡ Ok 1
-unfolding column_in axis_len int_lens name_of overlap_document placed
+unfolding column_in var_len lens_at name_of overlap_document placed
 target_again faces_a faces_b p ps = rw (not_zero (length (p ∷ ps)) (omega arith), same_true (length (p ∷ ps))) refl
 
 size_again : (faces_a faces_b : ℕ) (p : Piece) (ps : List Piece) → column_in (file_for faces_a faces_b p ps) (length (p ∷ ps)) RingSize ≡ Ok 2
-unfolding column_in axis_len int_lens name_of overlap_document placed
+unfolding column_in var_len lens_at name_of overlap_document placed
 size_again faces_a faces_b p ps = rw (not_zero (length (p ∷ ps)) (omega arith), same_true (length (p ∷ ps))) refl
 
 planes_again : (faces_a faces_b : ℕ) (p : Piece) (ps : List Piece) → 1 ≤ corner_count_of (p ∷ ps) → planes_in (file_for faces_a faces_b p ps) ≡ Ok (3, corner_count_of (p ∷ ps))
-unfolding planes_in axis_len int_lens name_of overlap_document placed
+unfolding planes_in var_len lens_at name_of overlap_document placed
 planes_again faces_a faces_b p ps some = rw (not_zero (corner_count_of (p ∷ ps)) some) refl
 
 corner_again : (faces_a faces_b : ℕ) (p : Piece) (ps : List Piece) → 1 ≤ corner_count_of (p ∷ ps) → corner_in (file_for faces_a faces_b p ps) (corner_count_of (p ∷ ps)) ≡ Ok 4
-unfolding corner_in int_lens name_of overlap_document placed
+unfolding corner_in var_lens lens_at name_of overlap_document placed
 corner_again faces_a faces_b p ps some = rw (not_zero (corner_count_of (p ∷ ps)) some, same_true (corner_count_of (p ∷ ps))) refl
 
 five_again : (file : NcFile) (faces_a faces_b pieces corners : ℕ) → column_in file pieces Source ≡ Ok 0 → column_in file pieces Target ≡ Ok 1 → column_in file pieces RingSize ≡ Ok 2 → planes_in file ≡ Ok (3, corners) → corner_in file corners ≡ Ok 4
@@ -153,7 +154,7 @@ some_again faces_a faces_b p ps h typed =
     let bytes = file_of (overlap_document o) in
     let v = vars_of o in
     let values = source_column pieces ∷ target_column pieces ∷ ring_size_column pieces ∷ ring_plane_column pieces ∷ corner_column pieces ∷ [] in
-    let some : 1 ≤ corner_count_of pieces = omega (arith, least_count pieces (recursion_from_All _ pieces (all_small o h))) in
+    let some : 1 ≤ corner_count_of pieces = omega (arith, least_count pieces (recursion_from_All HasRingSize pieces (ring_sizes o h))) in
     let counts = counts_again o h in
     let five = five_again file faces_a faces_b (length pieces) (corner_count_of pieces) (source_again faces_a faces_b p ps) (target_again faces_a faces_b p ps) (size_again faces_a faces_b p ps) (planes_again faces_a faces_b p ps some) (corner_again faces_a faces_b p ps some) in
     let found : overlap_vars_in file ≡ Ok v = joined file faces_a faces_b (length pieces) v counts.0 counts.1 counts.2 (not_zero (length pieces) (omega arith)) five in

@@ -1,13 +1,11 @@
 -- How long the file of an overlap is, and that its document is well formed.
-use Rattle.std.proofs.Common.{◌≡◌, ◌≢◌, ◌+◌, ◌*◌, ◌%◌, ◌≤◌, ◌<◌, ◌^◌, ◌==◌, ℕ, ℤ, zero, suc, false, cond, pos, List, [], ◌∷◌, length, drop, refl, ap, ap₂, sym, ◌∙◌, if◌then◌else◌, arith, lit<, lit≤, length-append, slice_index_or, slice_index, All, sum_by, codes}
-use Rattle.std.proofs.lemmas.Bool.Decides.{nat_tests}
-use Rattle.std.proofs.Math.Nat.{mul-mod_right}
+use Rattle.std.proofs.Common.{◌≡◌, ◌≢◌, ◌+◌, ◌*◌, ◌≤◌, ◌<◌, ◌^◌, ◌==◌, ℕ, ℤ, zero, suc, false, cond, pos, List, [], ◌∷◌, length, drop, refl, ap, ap₂, sym, ◌∙◌, if◌then◌else◌, arith, lit<, lit≤, length-append, slice_index_or, slice_index, All, sum_by, codes}
 use Rattle.std.proofs.lemmas.List.Sums.{sum_by-cons}
 use Rattle.std.proofs.lemmas.List.{length-map}
 use Rattle.std.proofs.lemmas.List.Elements.{All-from_recursion, recursion_from_All}
 use Rattle.std.specs.List.{flat_map, AllByRecursion, count_by}
 use Rattle.clip.specs.declared.pieces.Piece.{Piece}
-use Rattle.clip.specs.Overlaps.{OverlapParts, IsSoundPiece, IsSoundOverlap}
+use Rattle.clip.specs.Overlaps.{OverlapParts, HasSmallNumbers, IsSoundPiece, IsSoundOverlap}
 use Rattle.nc_write.specs.declared.DocVar.{DocVar}
 use Rattle.nc_write.specs.declared.NcDoc.{NcDoc}
 use Rattle.nc_write.specs.declared.Values.{Values}
@@ -17,11 +15,11 @@ use Rattle.nc_write.specs.Extents.{rounded, product_of, has_records}
 use Rattle.nc_write.specs.Widths.{width, number, code}
 use Rattle.nc_write.specs.File.{version_of, lens_of, kind_of, numbers_of, is_record, fixed_data, header_len, dimension, attribute, name, variable, file_of}
 use Rattle.nc_write.specs.Form.{IsWellFormed, full_lens}
-use Rattle.nc_write.proofs.PartLengths.{length_variable, header_len_is}
+use Rattle.nc_write.proofs.PartLengths.{header_len_is}
 use Rattle.nc_write.proofs.Places.{length_fixed_data, length_file_of_fixed}
-use Rattle.remap_files.specs.Written.{HasSmallNumbers}
+use Rattle.exodus_mesh.proofs.DocLengths.{width_is, var_length, ints_length, not_zero, not_none, full_len}
 use Rattle.clip.specs.Columns.{source_column, target_column, ring_size_column, ring_numbers, ring_plane_column, triple_of, corner_numbers, corner_column}
-use Rattle.remap_files.specs.OverlapDocument.{variable_of, corner_count_of, overlap_atts, overlap_dims, overlap_vars, overlap_document, overlap_file_len}
+use Rattle.remap_files.specs.OverlapDocument.{variable_of, HasRingSize, corner_count_of, overlap_atts, overlap_dims, overlap_vars, overlap_document, overlap_file_len}
 
 -- Pieces.
 
@@ -30,7 +28,6 @@ pub small_numbers : (faces_a faces_b : ℕ) (p : Piece) → faces_a ≤ 1048576 
 small_numbers faces_a faces_b p few_a few_b h = record {
   source = omega (arith, few_a, h.source.1);
   target = omega (arith, few_b, h.target.1);
-  least_size = h.least_size;
   greatest_size = h.greatest_size;
   numbers = h.numbers;
 }
@@ -38,14 +35,17 @@ small_numbers faces_a faces_b p few_a few_b h = record {
 pub all_small : (o : OverlapParts) → IsSoundOverlap o → All HasSmallNumbers o.pieces
 all_small o h = λ i d below. small_numbers o.faces_a o.faces_b (slice_index_or o.pieces i d) h.source_faces.1 h.target_faces.1 (h.pieces i d below)
 
--- each piece has 3 to 32 corners
-pub least_count : (pieces : List Piece) → AllByRecursion HasSmallNumbers pieces → 3 * length pieces ≤ corner_count_of pieces
-least_count [] h = omega arith
-least_count (p ∷ ps) h = omega (arith, h.0.least_size, least_count ps h.1, sum_by-cons (λ (q : Piece). length q.ring.items) p ps)
+pub ring_sizes : (o : OverlapParts) → IsSoundOverlap o → All HasRingSize o.pieces
+ring_sizes o h = λ i d below. let p = h.pieces i d below in (p.least_size, p.greatest_size)
 
-pub greatest_count : (pieces : List Piece) → AllByRecursion HasSmallNumbers pieces → corner_count_of pieces ≤ 32 * length pieces
+-- each piece has 3 to 32 corners
+pub least_count : (pieces : List Piece) → AllByRecursion HasRingSize pieces → 3 * length pieces ≤ corner_count_of pieces
+least_count [] h = omega arith
+least_count (p ∷ ps) h = omega (arith, h.0.0, least_count ps h.1, sum_by-cons (λ (q : Piece). length q.ring.items) p ps)
+
+pub greatest_count : (pieces : List Piece) → AllByRecursion HasRingSize pieces → corner_count_of pieces ≤ 32 * length pieces
 greatest_count [] h = omega arith
-greatest_count (p ∷ ps) h = omega (arith, h.0.greatest_size, greatest_count ps h.1, sum_by-cons (λ (q : Piece). length q.ring.items) p ps)
+greatest_count (p ∷ ps) h = omega (arith, h.0.1, greatest_count ps h.1, sum_by-cons (λ (q : Piece). length q.ring.items) p ps)
 
 pub length_planes : (pieces : List Piece) → length (ring_plane_column pieces) ≡ corner_count_of pieces
 length_planes [] = refl
@@ -74,15 +74,6 @@ dims_length pieces corners = refl
 atts_length : (faces_a faces_b pieces : ℕ) → length (flat_map (attribute 2) (overlap_atts faces_a faces_b pieces)) ≡ 72
 unfolding attribute name number width value code
 atts_length faces_a faces_b pieces = refl
-
-width_is : width 2 ≡ 4
-unfolding width
-width_is = refl
-
--- the part of a header that a variable takes
-var_length : (doc : NcDoc) (v : DocVar) (text count : ℕ) → version_of doc ≡ 2 → length (name 2 v.name) ≡ text → length v.dims ≡ count → length (variable doc 0 v) ≡ text + 4 * count + 28
-var_length doc v text count version text_is count_is =
-    length_variable 2 v doc 0 (sym version) ∙ ap₂ (λ (a w : ℕ). a + w * (length v.dims + 3) + 16) text_is width_is ∙ ap (λ (n : ℕ). text + 4 * (n + 3) + 16) count_is ∙ omega arith
 
 -- the names of the five variables, each filled up to a multiple of 4 bytes
 name_lengths : (length (name 2 (codes "source")) ≡ 12) × (length (name 2 (codes "target")) ≡ 12) × (length (name 2 (codes "ring_size")) ≡ 16) × (length (name 2 (codes "ring_plane")) ≡ 16) × (length (name 2 (codes "corner")) ≡ 12)
@@ -134,28 +125,10 @@ header_is faces_a faces_b p ps = parts_length (overlap_document (parts_of faces_
 
 -- The data.
 
-pub not_zero : (n : ℕ) → 1 ≤ n → (n == 0) ≡ false
-not_zero n h = grind (arith, nat_tests)
-
 -- no file of an overlap is longer than this
 len_below : (pieces corners : ℕ) → pieces ≤ 8388608 → corners ≤ 268435456 → overlap_file_len pieces corners ≤ 3565158792
 len_below zero corners few most = omega arith
 len_below (suc n) corners few most = let b : (suc n == 0) ≡ false = not_zero (suc n) (omega arith) in rw b (omega (arith, few, most))
-
-mod_four : (k : ℕ) → (4 * k) % 4 ≡ 0
-mod_four k = mul-mod_right 4 k
-
--- no padding behind values of four bytes
-rounded_four : (k : ℕ) → rounded (4 * k) ≡ 4 * k
-rounded_four k = omega (arith, mod_four k)
-
-ints_length : (doc : NcDoc) (v : DocVar) (zs : List ℤ) (n : ℕ) → is_record doc v ≡ false → v.values ≡ Int zs → length zs ≡ n → length (fixed_data doc v) ≡ 4 * n
-ints_length doc v zs n fixed values count =
-    length_fixed_data doc v
-    ∙ ap (λ b. cond b 0 (rounded (size_of (kind_of v.values) * length (numbers_of v.values)))) fixed
-    ∙ ap (λ vs. rounded (size_of (kind_of vs) * length (numbers_of vs))) values
-    ∙ rounded_four (length zs)
-    ∙ ap (λ (k : ℕ). 4 * k) count
 
 bytes_length : (doc : NcDoc) (v : DocVar) (zs : List ℤ) (n : ℕ) → is_record doc v ≡ false → v.values ≡ Byte zs → length zs ≡ n → length (fixed_data doc v) ≡ rounded n
 bytes_length doc v zs n fixed values count =
@@ -181,14 +154,14 @@ vars_are : (faces_a faces_b : ℕ) (p : Piece) (ps : List Piece) → (overlap_do
 unfolding overlap_document
 vars_are faces_a faces_b p ps = refl
 
-length_some : (faces_a faces_b : ℕ) (p : Piece) (ps : List Piece) → AllByRecursion HasSmallNumbers (p ∷ ps) → AllByRecursion HasItsCorners (p ∷ ps)
+length_some : (faces_a faces_b : ℕ) (p : Piece) (ps : List Piece) → AllByRecursion HasRingSize (p ∷ ps) → AllByRecursion HasItsCorners (p ∷ ps)
     → length (file_of (overlap_document (parts_of faces_a faces_b (p ∷ ps)))) ≡ overlap_file_len (length (p ∷ ps)) (corner_count_of (p ∷ ps))
-length_some faces_a faces_b p ps small matched =
+length_some faces_a faces_b p ps sized matched =
     let pieces = p ∷ ps in
     let n = length pieces in
     let k = corner_count_of pieces in
     let doc = overlap_document (parts_of faces_a faces_b pieces) in
-    let some : 1 ≤ k = omega (arith, least_count pieces small) in
+    let some : 1 ≤ k = omega (arith, least_count pieces sized) in
     let source = variable_of (codes "source") (0 ∷ []) (Int (source_column pieces)) in
     let target = variable_of (codes "target") (0 ∷ []) (Int (target_column pieces)) in
     let size = variable_of (codes "ring_size") (0 ∷ []) (Byte (ring_size_column pieces)) in
@@ -216,21 +189,13 @@ length_none faces_a faces_b =
 
 -- the length of the file of an overlap
 pub length_overlap_file : (o : OverlapParts) → IsSoundOverlap o → length (file_of (overlap_document o)) ≡ overlap_file_len (length o.pieces) (corner_count_of o.pieces)
-length_overlap_file o h = by_pieces o.faces_a o.faces_b o.pieces (recursion_from_All HasSmallNumbers o.pieces (all_small o h)) (recursion_from_All HasItsCorners o.pieces (λ i d below. (h.pieces i d below).corners))
+length_overlap_file o h = by_pieces o.faces_a o.faces_b o.pieces (recursion_from_All HasRingSize o.pieces (ring_sizes o h)) (recursion_from_All HasItsCorners o.pieces (λ i d below. (h.pieces i d below).corners))
   where
-    by_pieces : (faces_a faces_b : ℕ) (pieces : List Piece) → AllByRecursion HasSmallNumbers pieces → AllByRecursion HasItsCorners pieces → length (file_of (overlap_document (parts_of faces_a faces_b pieces))) ≡ overlap_file_len (length pieces) (corner_count_of pieces)
-    by_pieces faces_a faces_b [] small matched = length_none faces_a faces_b
-    by_pieces faces_a faces_b (p ∷ ps) small matched = length_some faces_a faces_b p ps small matched
+    by_pieces : (faces_a faces_b : ℕ) (pieces : List Piece) → AllByRecursion HasRingSize pieces → AllByRecursion HasItsCorners pieces → length (file_of (overlap_document (parts_of faces_a faces_b pieces))) ≡ overlap_file_len (length pieces) (corner_count_of pieces)
+    by_pieces faces_a faces_b [] sized matched = length_none faces_a faces_b
+    by_pieces faces_a faces_b (p ∷ ps) sized matched = length_some faces_a faces_b p ps sized matched
 
 -- The rules of a document.
-
-not_none : (n : ℕ) → 1 ≤ n → n ≢ 0
-not_none n h e = absurd (omega (arith, h, e))
-
--- with no records the length of a dimension counts as it stands
-full_len : (n : ℕ) → (if n == 0 then 0 else n) ≡ n
-full_len zero = refl
-full_len (suc n) = ap (λ b. if b then 0 else suc n) (not_zero (suc n) (omega arith))
 
 one_record_dim : (pieces corners : ℕ) → 1 ≤ pieces → 1 ≤ corners → count_by (λ d. d.len == 0) (overlap_dims pieces corners) ≤ 1
 one_record_dim pieces corners some_piece some_corner = rw (not_zero pieces some_piece, not_zero corners some_corner) (omega arith)
@@ -261,15 +226,15 @@ values_fill faces_a faces_b p ps matched =
       ),
     )
 
-some_form : (faces_a faces_b : ℕ) (p : Piece) (ps : List Piece) → length (p ∷ ps) ≤ 8388608 → AllByRecursion HasSmallNumbers (p ∷ ps) → AllByRecursion HasItsCorners (p ∷ ps) → IsWellFormed (overlap_document (parts_of faces_a faces_b (p ∷ ps)))
+some_form : (faces_a faces_b : ℕ) (p : Piece) (ps : List Piece) → length (p ∷ ps) ≤ 8388608 → AllByRecursion HasRingSize (p ∷ ps) → AllByRecursion HasItsCorners (p ∷ ps) → IsWellFormed (overlap_document (parts_of faces_a faces_b (p ∷ ps)))
 unfolding overlap_document
-some_form faces_a faces_b p ps few small matched =
+some_form faces_a faces_b p ps few sized matched =
     let pieces = p ∷ ps in
     let n = length pieces in
     let k = corner_count_of pieces in
     let doc = overlap_document (parts_of faces_a faces_b pieces) in
-    let some : 1 ≤ k = omega (arith, least_count pieces small) in
-    let most : k ≤ 268435456 = omega (arith, greatest_count pieces small, few) in
+    let some : 1 ≤ k = omega (arith, least_count pieces sized) in
+    let most : k ≤ 268435456 = omega (arith, greatest_count pieces sized, few) in
     record {
       lens = All-from_recursion (λ d. d.len ≤ 4294967295) doc.dims (omega (arith, few), (omega (arith, most), (lit≤ tt, tt)));
       one_record_dim = one_record_dim n k (omega arith) some;
@@ -311,12 +276,12 @@ some_form faces_a faces_b p ps few small matched =
         var_names = All-from_recursion (λ v. length v.name < 2 ^ 31) doc.vars (lit< tt, (lit< tt, (lit< tt, (lit< tt, (lit< tt, tt)))));
         ids = All-from_recursion (λ v. length v.dims < 2 ^ 31) doc.vars (lit< tt, (lit< tt, (lit< tt, (lit< tt, (lit< tt, tt)))));
       };
-      file = short_file faces_a faces_b p ps few small matched most;
+      file = short_file faces_a faces_b p ps few sized matched most;
     }
   where
-    short_file : (faces_a faces_b : ℕ) (p : Piece) (ps : List Piece) → length (p ∷ ps) ≤ 8388608 → AllByRecursion HasSmallNumbers (p ∷ ps) → AllByRecursion HasItsCorners (p ∷ ps) → corner_count_of (p ∷ ps) ≤ 268435456
+    short_file : (faces_a faces_b : ℕ) (p : Piece) (ps : List Piece) → length (p ∷ ps) ≤ 8388608 → AllByRecursion HasRingSize (p ∷ ps) → AllByRecursion HasItsCorners (p ∷ ps) → corner_count_of (p ∷ ps) ≤ 268435456
         → length (file_of (overlap_document (parts_of faces_a faces_b (p ∷ ps)))) < 2 ^ 63
-    short_file faces_a faces_b p ps few small matched most = omega (arith, length_some faces_a faces_b p ps small matched, len_below (length (p ∷ ps)) (corner_count_of (p ∷ ps)) few most)
+    short_file faces_a faces_b p ps few sized matched most = omega (arith, length_some faces_a faces_b p ps sized matched, len_below (length (p ∷ ps)) (corner_count_of (p ∷ ps)) few most)
 
 none_form : (faces_a faces_b : ℕ) → IsWellFormed (overlap_document (parts_of faces_a faces_b []))
 unfolding overlap_document
@@ -344,8 +309,8 @@ none_form faces_a faces_b =
 
 -- the document of an overlap is well formed
 pub overlap_document_form : (o : OverlapParts) → IsSoundOverlap o → IsWellFormed (overlap_document o)
-overlap_document_form o h = by_pieces o.faces_a o.faces_b o.pieces h.count (recursion_from_All HasSmallNumbers o.pieces (all_small o h)) (recursion_from_All HasItsCorners o.pieces (λ i d below. (h.pieces i d below).corners))
+overlap_document_form o h = by_pieces o.faces_a o.faces_b o.pieces h.count (recursion_from_All HasRingSize o.pieces (ring_sizes o h)) (recursion_from_All HasItsCorners o.pieces (λ i d below. (h.pieces i d below).corners))
   where
-    by_pieces : (faces_a faces_b : ℕ) (pieces : List Piece) → length pieces ≤ 8388608 → AllByRecursion HasSmallNumbers pieces → AllByRecursion HasItsCorners pieces → IsWellFormed (overlap_document (parts_of faces_a faces_b pieces))
-    by_pieces faces_a faces_b [] few small matched = none_form faces_a faces_b
-    by_pieces faces_a faces_b (p ∷ ps) few small matched = some_form faces_a faces_b p ps few small matched
+    by_pieces : (faces_a faces_b : ℕ) (pieces : List Piece) → length pieces ≤ 8388608 → AllByRecursion HasRingSize pieces → AllByRecursion HasItsCorners pieces → IsWellFormed (overlap_document (parts_of faces_a faces_b pieces))
+    by_pieces faces_a faces_b [] few sized matched = none_form faces_a faces_b
+    by_pieces faces_a faces_b (p ∷ ps) few sized matched = some_form faces_a faces_b p ps few sized matched

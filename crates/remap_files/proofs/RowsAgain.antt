@@ -18,7 +18,7 @@ use Rattle.clip.specs.Columns.{source_column, target_column, ring_size_column, r
 use Rattle.remap_files.specs.OverlapDocument.{corner_count_of, IsCorner, HasCorners}
 use Rattle.remap_files.specs.OverlapNames.{is_within}
 use Rattle.remap_files.specs.OverlapRows.{Columns, at_row, exceeds, has_good_faces, ring_begin, ring_len, ring_at, has_good_ring, piece_of, piece_at, row_fault}
-use Rattle.remap_files.proofs.Triples.{triple_is}
+use Rattle.exodus_mesh.proofs.NodesAgain.{triple_is}
 use Rattle.remap_files.proofs.OverlapLength.{length_planes, length_corners, HasItsCorners}
 use Rattle.remap_files.proofs.RowFaults.{AreGood, no_fault}
 

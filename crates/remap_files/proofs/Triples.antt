@@ -1,15 +1,8 @@
 -- Numbers three by three.
-use Rattle.std.proofs.Common.{◌≡◌, ◌<◌, ◌+◌, ◌-◌, ℕ, zero, suc, ℤ, List, [], ◌∷◌, length, take, drop, refl, ap, ap₂, sym, ◌∙◌, arith}
+use Rattle.std.proofs.Common.{◌≡◌, ◌<◌, ◌+◌, ◌-◌, ℕ, zero, suc, ℤ, List, ◌∷◌, length, take, drop, refl, ap, ap₂, sym, ◌∙◌, arith}
 use Rattle.exodus_mesh.specs.MeshValues.{rows_of}
+use Rattle.exodus_mesh.proofs.NodesAgain.{triple_is}
 use Rattle.clip.specs.Columns.{triple_of}
-
--- a list of three numbers is the triple of them
-pub triple_is : (c : List ℤ) → length c ≡ 3 → triple_of c ≡ c
-triple_is [] h = absurd (omega (arith, h))
-triple_is (x ∷ []) h = absurd (omega (arith, h))
-triple_is (x ∷ y ∷ []) h = absurd (omega (arith, h))
-triple_is (x ∷ y ∷ z ∷ []) h = refl
-triple_is (x ∷ y ∷ z ∷ w ∷ more) h = absurd (omega (arith, h))
 
 -- one more triple of n, of which k are done
 pub next_triple : (n k : ℕ) (rest front behind : List ℤ) → k < n → front ≡ take 3 rest → behind ≡ drop 3 rest → length front ≡ 3 → rows_of (n - k) 3 rest ≡ triple_of front ∷ rows_of (n - (k + 1)) 3 behind

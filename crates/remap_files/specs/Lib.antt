@@ -1,5 +1,4 @@
 pub mod OverlapDocument
-pub mod Written
 pub mod Answers
 pub mod OverlapNames
 pub mod OverlapRows

@@ -1,5 +1,5 @@
 -- The document of an overlap, and how long its file is. The whole form is our own.
-use Rattle.std.specs.Prelude.{ℕ, ◌+◌, ◌*◌, ◌==◌, ℤ, pos, List, [], ◌∷◌, length, All, if◌then◌else◌, codes, ◌≡◌, FitsSigned}
+use Rattle.std.specs.Prelude.{ℕ, ◌+◌, ◌*◌, ◌==◌, ◌≤◌, ℤ, pos, List, [], ◌∷◌, length, All, if◌then◌else◌, codes, ◌≡◌, FitsSigned}
 use Rattle.std.specs.List.{sum_by}
 use Rattle.std.specs.Int.{w32}
 use Rattle.clip.specs.declared.pieces.Piece.{Piece}
@@ -23,6 +23,10 @@ variable_of name dims values = record { name = name; dims = dims; values = value
 -- how many places all rings have together
 abbrev pub corner_count_of : List Piece → ℕ
 corner_count_of pieces = sum_by (λ (p : Piece). length p.ring.items) pieces
+
+-- its ring has 3 to 32 places
+abbrev pub HasRingSize : Piece → Type 0
+HasRingSize p = (3 ≤ length p.ring.items) × (length p.ring.items ≤ 32)
 
 -- a dimension of length 0 would be the record dimension: without a piece there is no dimension and no variable
 abbrev pub if_some : {A : Type 0} → List Piece → List A → List A

@@ -3,12 +3,14 @@
 use Rattle.std.specs.Prelude.{ℕ, ℤ, pos, [], ◌∷◌, Bool, Result, Ok, Err, ◌==◌, ◌&&◌, if◌then◌else◌, int_le, unsigned_abs}
 use Rattle.nc_format.specs.declared.NcFile.{NcFile}
 use Rattle.nc_format.specs.Numbers.{att_named, one_int}
+use Rattle.exodus_mesh.specs.declared.kinds.NumberKind.TheVariants.{Int}
 use Rattle.exodus_mesh.specs.declared.ids.NameId.{NameId}
 use Rattle.exodus_mesh.specs.declared.ids.NameId.TheVariants.{FacesA, FacesB, Pieces, Source, Target, RingSize, RingPlane, Corner}
 use Rattle.exodus_mesh.specs.declared.ids.NameFault.{NameFault}
 use Rattle.exodus_mesh.specs.declared.ids.NameFault.TheVariants.{Missing, Shape, Kind}
 use Rattle.exodus_mesh.specs.Names.{◌>>=◌, name_of, found_or}
-use Rattle.exodus_mesh.specs.MeshNames.{place_of, int_lens, axis_len, two_lens, same_len}
+use Rattle.exodus_mesh.specs.VarLens.{same_len, var_len, var_lens}
+use Rattle.exodus_mesh.specs.MeshNames.{place_of}
 use Rattle.remap_files.specs.declared.vars.OverlapVars.{OverlapVars}
 
 -- from low to high
@@ -31,7 +33,7 @@ count_in low high file id = do
 unfoldable pub column_in : NcFile → ℕ → NameId → Result ℕ NameFault
 column_in file pieces id = do
   place ← found_or (Missing id) (place_of file id)
-  len ← axis_len file id place
+  len ← var_len file Int id place
   same ← same_len id pieces len
   Ok place
 
@@ -39,15 +41,14 @@ column_in file pieces id = do
 unfoldable pub planes_in : NcFile → Result (ℕ × ℕ) NameFault
 planes_in file = do
   place ← found_or (Missing RingPlane) (place_of file RingPlane)
-  len ← axis_len file RingPlane place
+  len ← var_len file Int RingPlane place
   Ok (place, len)
 
 -- the variable of all corners, with as many triples
 unfoldable pub corner_in : NcFile → ℕ → Result ℕ NameFault
 corner_in file corners = do
   place ← found_or (Missing Corner) (place_of file Corner)
-  lens ← int_lens file Corner place
-  both ← two_lens Corner lens
+  both ← var_lens file Int Corner place
   same ← same_len Corner corners both.0
   three ← same_len Corner 3 both.1
   Ok place

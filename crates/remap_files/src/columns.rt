@@ -1,7 +1,6 @@
 // The numbers of the variables of an overlap, one list for each variable.
 ghost use Rattle.std.specs.Prelude.{◌≡◌, ◌<◌, ◌*◌, ◌^◌, ◌++◌, IfOk, OnOk, All, map, flat_map, pos};
-ghost use Rattle.remap_files.specs.Written.{HasSmallNumbers};
-ghost use Rattle.clip.specs.Overlaps.{IsRingNumber};
+ghost use Rattle.clip.specs.Overlaps.{IsRingNumber, HasSmallNumbers};
 ghost use Rattle.clip.specs.Columns.{source_column, target_column, ring_size_column, ring_numbers, ring_plane_column, triple_of, corner_numbers, corner_column};
 ghost use Rattle.remap_files.specs.OverlapDocument.{IsCorner};
 ghost use Rattle.clip.specs.declared.pieces.Piece.{Piece};

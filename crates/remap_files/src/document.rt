@@ -1,6 +1,6 @@
 // The document of an overlap.
 ghost use Rattle.std.specs.Prelude.{◌≡◌, ◌≤◌, ◌<◌, ◌^◌, ◌*◌, All, length, IfOk, OnOk, Ok};
-ghost use Rattle.clip.specs.Overlaps.{IsSoundOverlap};
+ghost use Rattle.clip.specs.Overlaps.{HasSmallNumbers, IsSoundOverlap};
 ghost use Rattle.nc_write.specs.File.{file_of};
 ghost use Rattle.nc_write.specs.Form.{IsWellFormed};
 ghost use Rattle.nc_write.specs.declared.Values.TheVariants.{Byte, Int};
@@ -8,13 +8,13 @@ ghost use Rattle.clip.specs.declared.pieces.Piece.{Piece};
 ghost use Rattle.nc_format.specs.declared.NcFile.{NcFile};
 ghost use Rattle.nc_format.specs.Header.{IsHeader};
 ghost use Rattle.remap_files.specs.OverlapIn.{overlap_in};
-ghost use Rattle.remap_files.specs.Written.{HasSmallNumbers};
 ghost use Rattle.remap_files.specs.OverlapDocument.{IsCorner, HasCorners, corner_count_of, overlap_atts, overlap_dims, overlap_vars, overlap_document, overlap_file_len};
 
 use crate::columns::{corners, ring_planes, ring_sizes, sources, targets};
 use crate::lengths::corner_count;
-use crate::names::{make_attribute, make_dimension, make_variable};
+use crate::names::{make_attribute, make_variable};
 use clip::{Overlap, Piece};
+use exodus_mesh::make_dimension;
 use nc_write::{Bytes8, DocAtt, DocAtts, DocDim, DocDims, DocVar, DocVars, NcDoc, Values};
 use std::alloc::{AllocError, Global};
 use vec_exact::{Ints, NoMemory};

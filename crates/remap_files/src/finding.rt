@@ -1,17 +1,14 @@
 // The counts and the variables of an overlap, looked up by their names.
-ghost use Rattle.std.specs.Prelude.{◌≡◌, [], map, slice_index, IfOk, IfErr, Ok};
+ghost use Rattle.std.specs.Prelude.{◌≡◌, [], IfOk, IfErr, Ok};
 ghost use Rattle.std.specs.Option.{option_map};
 ghost use Rattle.nc_format.specs.Sound.{IsSound};
-ghost use Rattle.nc_format.specs.Grammar.{lens_of};
 ghost use Rattle.nc_format.specs.Numbers.{att_named};
 ghost use Rattle.exodus_mesh.specs.Names.{name_of, Answers, Refuses};
-ghost use Rattle.exodus_mesh.specs.MeshNames.{int_lens, one_len, two_lens, axis_len};
 ghost use Rattle.remap_files.specs.OverlapNames.{is_within, att_in, count_in, column_in, planes_in, corner_in, five_in, overlap_vars_in};
 
 use crate::OverlapVars;
-use crate::variables::var_at;
-use exodus_mesh::{NameFault, NameId};
-use nc_format::{NcAtt, NcDim, NcFile, find_var, int_att, is_int};
+use exodus_mesh::{NameFault, NameId, NumberKind, find_named, var_len, var_lens};
+use nc_format::{NcAtt, NcFile, int_att};
 use nc_write::DimIds;
 use std::alloc::Global;
 
@@ -35,7 +32,7 @@ fn first_att<'a>(atts: &'a [NcAtt], name: &[u8]) -> Option<&'a NcAtt>
 fn att(file: &NcFile, id: NameId, name: &[u8]) -> Result<i32, NameFault>
     requires sound { IsSound file.now }
     requires name { name.now ≡ name_of [] id }
-    ensures { Answers (λ z. z) result (att_in file.now id) }
+    ensures { result ≡ att_in file.now id }
 {
     let Some(_) = first_att(&file.atts.items, name) else {
         return Err(NameFault::Missing(id));
@@ -50,7 +47,7 @@ fn att(file: &NcFile, id: NameId, name: &[u8]) -> Result<i32, NameFault>
 fn count(file: &NcFile, id: NameId, name: &[u8], low: u32, high: u32) -> Result<u32, NameFault>
     requires sound { IsSound file.now }
     requires name { name.now ≡ name_of [] id }
-    ensures { Answers (λ n. n) result (count_in low high file.now id) }
+    ensures { result ≡ count_in low high file.now id }
 {
     let number = att(file, id, name)?;
     if !is_within(low, high, number) {
@@ -59,82 +56,15 @@ fn count(file: &NcFile, id: NameId, name: &[u8], low: u32, high: u32) -> Result<
     Ok(number.unsigned_abs())
 }
 
-// The length of a dimension.
-fn len_of(dims: &[NcDim], id: u32) -> u32
-    ensures { result ≡ slice_index (lens_of dims.now) id }
-{
-    match dims.get(id as usize) {
-        Some(dim) => dim.len,
-        None => 0,
-    }
-}
-
-// The dimensions of the variable at a place, whose type is BYTE, SHORT or INT.
-#[tactic(auto, unfolding(exodus_mesh::specs::MeshNames::int_lens))]
-fn int_dims<'a>(file: &'a NcFile, id: NameId, place: u32) -> Result<&'a [u32], NameFault>
-    ensures { Answers (λ ids. map (slice_index (lens_of file.now.dims)) ids.now) result (int_lens file.now id place) }
-{
-    let Some(var) = var_at(file, place) else {
-        return Err(NameFault::Missing(id));
-    };
-    if !is_int(var.kind) {
-        return Err(NameFault::Kind(id));
-    }
-    Ok(&var.dims.items)
-}
-
-// The length of a variable of one dimension, which is not the record dimension.
-fn one_len(dims: &[NcDim], ids: &[u32], id: NameId) -> Result<u32, NameFault>
-    ensures { Answers (λ n. n) result (one_len id (map (slice_index (lens_of dims.now)) ids.now)) }
-{
-    match ids {
-        [only] => {
-            let len = len_of(dims, *only);
-            if len == 0 {
-                return Err(NameFault::Shape(id));
-            }
-            Ok(len)
-        }
-        _ => Err(NameFault::Shape(id)),
-    }
-}
-
-// The lengths of a variable of two dimensions, neither of which is the record dimension.
-fn two_lens(dims: &[NcDim], ids: &[u32], id: NameId) -> Result<(u32, u32), NameFault>
-    ensures { Answers (λ both. (both.0, both.1)) result (two_lens id (map (slice_index (lens_of dims.now)) ids.now)) }
-{
-    match ids {
-        [first, second] => {
-            let lens = (len_of(dims, *first), len_of(dims, *second));
-            if lens.0 == 0 || lens.1 == 0 {
-                return Err(NameFault::Shape(id));
-            }
-            Ok(lens)
-        }
-        _ => Err(NameFault::Shape(id)),
-    }
-}
-
-// The one length of the variable at a place.
-#[tactic(auto, unfolding(exodus_mesh::specs::MeshNames::axis_len))]
-fn axis_len(file: &NcFile, id: NameId, place: u32) -> Result<u32, NameFault>
-    ensures { Answers (λ n. n) result (axis_len file.now id place) }
-{
-    let ids = int_dims(file, id, place)?;
-    one_len(&file.dims.items, ids, id)
-}
-
 // The place of a variable with one length, which is the number of pieces.
 #[tactic(auto, unfolding(crate::specs::OverlapNames::column_in))]
 fn find_column(file: &NcFile, pieces: u32, id: NameId, name: &[u8]) -> Result<u32, NameFault>
     requires sound { IsSound file.now }
     requires name { name.now ≡ name_of [] id }
-    ensures { Answers (λ place. place) result (column_in file.now pieces id) }
+    ensures { result ≡ column_in file.now pieces id }
 {
-    let Some(place) = find_var(file, name) else {
-        return Err(NameFault::Missing(id));
-    };
-    if axis_len(file, id, place)? != pieces {
+    let place = find_named(file, id, name)?;
+    if var_len(file, NumberKind::Int, id, place)? != pieces {
         return Err(NameFault::Shape(id));
     }
     Ok(place)
@@ -144,12 +74,10 @@ fn find_column(file: &NcFile, pieces: u32, id: NameId, name: &[u8]) -> Result<u3
 #[tactic(auto, unfolding(crate::specs::OverlapNames::planes_in, exodus_mesh::specs::Names::name_of))]
 fn find_planes(file: &NcFile) -> Result<(u32, u32), NameFault>
     requires { IsSound file.now }
-    ensures { Answers (λ both. (both.0, both.1)) result (planes_in file.now) }
+    ensures { result ≡ planes_in file.now }
 {
-    let Some(place) = find_var(file, b"ring_plane") else {
-        return Err(NameFault::Missing(NameId::RingPlane));
-    };
-    let len = axis_len(file, NameId::RingPlane, place)?;
+    let place = find_named(file, NameId::RingPlane, b"ring_plane")?;
+    let len = var_len(file, NumberKind::Int, NameId::RingPlane, place)?;
     Ok((place, len))
 }
 
@@ -157,13 +85,10 @@ fn find_planes(file: &NcFile) -> Result<(u32, u32), NameFault>
 #[tactic(auto, unfolding(crate::specs::OverlapNames::corner_in, exodus_mesh::specs::Names::name_of))]
 fn find_corner(file: &NcFile, corners: u32) -> Result<u32, NameFault>
     requires { IsSound file.now }
-    ensures { Answers (λ place. place) result (corner_in file.now corners) }
+    ensures { result ≡ corner_in file.now corners }
 {
-    let Some(place) = find_var(file, b"corner") else {
-        return Err(NameFault::Missing(NameId::Corner));
-    };
-    let ids = int_dims(file, NameId::Corner, place)?;
-    let lens = two_lens(&file.dims.items, ids, NameId::Corner)?;
+    let place = find_named(file, NameId::Corner, b"corner")?;
+    let lens = var_lens(file, NumberKind::Int, NameId::Corner, place)?;
     if lens.0 != corners || lens.1 != 3 {
         return Err(NameFault::Shape(NameId::Corner));
     }

@@ -2,9 +2,8 @@
 ghost use Rattle.std.specs.Prelude.{◌≡◌, ◌≤◌, ◌*◌, ◌^◌, All, length};
 ghost use Rattle.clip.specs.Overlaps.{OverlapParts, IsSoundOverlap};
 ghost use Rattle.nc_write.specs.File.{file_of};
-ghost use Rattle.remap_files.specs.Written.{HasSmallNumbers};
 ghost use Rattle.nc_write.specs.Extents.{rounded};
-ghost use Rattle.remap_files.specs.OverlapDocument.{corner_count_of, overlap_document, overlap_file_len};
+ghost use Rattle.remap_files.specs.OverlapDocument.{HasRingSize, corner_count_of, overlap_document, overlap_file_len};
 
 use clip::{Overlap, Piece};
 
@@ -34,7 +33,7 @@ pub fn overlap_length(pieces: u64, corners: u64) -> u64
 
 fn count_corners(pieces: &[Piece]) -> u64
     requires few { length pieces.now ≤ 8388608 }
-    requires sizes { All HasSmallNumbers pieces.now }
+    requires sizes { All HasRingSize pieces.now }
     ensures count { result ≡ corner_count_of pieces.now }
     ensures least { 3 * length pieces.now ≤ result }
     ensures greatest { result ≤ 32 * length pieces.now }

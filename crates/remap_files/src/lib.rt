@@ -13,7 +13,6 @@ mod reading;
 mod rows;
 #[cfg(test)]
 mod tests;
-mod variables;
 mod vars;
 
 pub use column_document::{columns_doc, columns_length};

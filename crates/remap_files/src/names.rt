@@ -1,27 +1,10 @@
-// Names of dimensions, attributes and variables.
+// Attributes and variables by their names.
 ghost use Rattle.std.specs.Prelude.{◌≡◌, ◌<◌, ◌^◌, IfOk};
-ghost use Rattle.exodus_mesh.specs.MeshDocument.{dimension_of};
 ghost use Rattle.remap_files.specs.OverlapDocument.{attribute_of, variable_of};
 
-use nc_write::{DimIds, DocAtt, DocDim, DocVar, Name, Values};
+use exodus_mesh::make_name;
+use nc_write::{DimIds, DocAtt, DocVar, Values};
 use std::alloc::{AllocError, Global};
-
-fn make_name(alloc: Global, text: &str) -> Result<Name, AllocError>
-    ensures { IfOk result (λ name. name ≡ text.now) }
-{
-    Ok(Name {
-        items: text.as_bytes().to_vec(alloc)?,
-    })
-}
-
-pub fn make_dimension(alloc: Global, text: &str, len: u32) -> Result<DocDim, AllocError>
-    ensures { IfOk result (λ dim. dim ≡ dimension_of text.now len) }
-{
-    Ok(DocDim {
-        name: make_name(alloc, text)?,
-        len,
-    })
-}
 
 pub fn make_attribute(alloc: Global, text: &str, value: u32) -> Result<DocAtt, AllocError>
     requires { value < 2 ^ 31 }

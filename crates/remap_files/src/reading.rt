@@ -1,35 +1,17 @@
 // The overlap of a whole file.
-ghost use Rattle.std.specs.Prelude.{◌≡◌, ◌≢◌, ◌++◌, ◌∷◌, [], ℕ, List, length, All, IfOk, IfErr, OnOk, Ok};
+ghost use Rattle.std.specs.Prelude.{◌≡◌, length, All, IfOk, IfErr, Ok};
 ghost use Rattle.nc_format.specs.Header.{IsHeader};
-ghost use Rattle.exodus_mesh.specs.MeshIn.{values_in};
-ghost use Rattle.exodus_mesh.specs.Found.{IsIntVar};
+ghost use Rattle.exodus_mesh.specs.Found.{IsSomeIntVar};
 ghost use Rattle.remap_files.specs.Answers.{Refuses, IsOfNamesOrRows};
 ghost use Rattle.remap_files.specs.OverlapIn.{lists_in, overlap_in};
-ghost use Rattle.remap_files.specs.Found.{IsSomeIntVar, file_fault_of};
+ghost use Rattle.remap_files.specs.Found.{file_fault_of};
 
-use crate::variables::var_at;
 use crate::{FileFault, find_overlap, overlap_from};
 use clip::Overlap;
-use exodus_mesh::NameFault;
-use nc_format::{NcFile, gather, int_values};
+use exodus_mesh::{NameFault, read_ints};
+use nc_format::NcFile;
 use std::alloc::Global;
 use vec_exact::{Ints, NoMemory};
-
-// The numbers of the variable at a place.
-fn values(alloc: Global, file: &NcFile, bytes: &[u8], place: u32) -> Result<Ints, NoMemory>
-    requires header { IsHeader bytes.now (length bytes.now) file.now }
-    requires var { IsSomeIntVar file.now place }
-    ensures { IfOk result (λ ints. ints ≡ values_in file.now bytes.now place) }
-{
-    let Some(var) = var_at(file, place) else {
-        return Ok(Ints {
-            items: Vec::new(alloc),
-        });
-    };
-    let spelled = gather(alloc, var, bytes)?;
-    let items = int_values(alloc, var.kind, &spelled)?;
-    Ok(Ints { items })
-}
 
 fn lists(alloc: Global, file: &NcFile, bytes: &[u8], places: &[u32]) -> Result<Vec<Ints>, NoMemory>
     requires header { IsHeader bytes.now (length bytes.now) file.now }
@@ -38,7 +20,7 @@ fn lists(alloc: Global, file: &NcFile, bytes: &[u8], places: &[u32]) -> Result<V
 {
     let mut lists = Vec::with_capacity(alloc, places.len())?;
     for place in places {
-        lists.push(values(alloc, file, bytes, *place)?)?;
+        lists.push(read_ints(alloc, file, bytes, *place)?)?;
     }
     Ok(lists)
 }

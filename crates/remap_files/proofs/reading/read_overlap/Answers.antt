@@ -5,7 +5,7 @@ use Rattle.nc_format.proofs.SoundParts.{header_is_sound}
 use Rattle.remap_files.specs.declared.vars.OverlapVars.{OverlapVars}
 use Rattle.remap_files.specs.declared.faults.FileFault.{FileFault}
 use Rattle.remap_files.specs.Answers.{Refuses}
-use Rattle.remap_files.specs.Found.{IsSomeIntVar}
+use Rattle.exodus_mesh.specs.Found.{IsSomeIntVar}
 use Rattle.remap_files.specs.OverlapRows.{overlap_of}
 use Rattle.remap_files.specs.OverlapIn.{lists_in, overlap_in}
 use Rattle.remap_files.proofs.FoundOverlap.{AreOverlapVars, overlap_vars_ok}

@@ -4,7 +4,7 @@ use Rattle.nc_format.specs.declared.NcVar.{NcVar}
 use Rattle.nc_format.specs.Numbers.{numbers_in}
 use Rattle.exodus_mesh.specs.MeshIn.{numbers_of_var}
 use Rattle.exodus_mesh.proofs.VarValues.{has_pieces, whole_bytes}
-use Rattle.remap_files.proofs.reading.values.Goals as goal
+use Rattle.exodus_mesh.proofs.reading.read_ints.Goals as goal
 
 pub gather-requires : goal.gather-requires
 gather-requires c =
