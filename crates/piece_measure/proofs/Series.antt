@@ -13,20 +13,20 @@ halved_at_most t r q =
     let g : q * (2 * unit) ≤ q * (unit + r) = mul-le q (2 * unit) q (unit + r) (omega arith) (omega arith) in
     omega (arith, h, g)
 
--- the second term of the series is at most the first
-pub third_at_most : (s : ℕ) → s < 17179869184 → third s ≤ s
+-- where s is at most 1, the second term of the series is at most the first
+pub third_at_most : (s : ℕ) → s ≤ unit → third s ≤ s
 third_at_most s h =
-    let square : s * s ≤ 17179869184 * 17179869184 = mul-le s s 17179869184 17179869184 (omega arith) (omega arith) in
-    let cube : s * s * s ≤ 295147905179352825856 * s = mul-le (s * s) s 295147905179352825856 s (omega (arith, square)) (omega arith) in
+    let square : s * s ≤ unit * unit = mul-le s s unit unit h h in
+    let cube : s * s * s ≤ unit * unit * s = mul-le (s * s) s (unit * unit) s square (omega arith) in
     omega (arith, cube)
 
 -- and the third at most the second
-pub fifth_at_most : (s : ℕ) → s < 17179869184 → fifth s ≤ third s
+pub fifth_at_most : (s : ℕ) → s ≤ unit → fifth s ≤ third s
 fifth_at_most s h =
     let square = s * s / unit in
     let fourth = square * square / unit in
-    let below : square ≤ 4294967296 = omega (arith, mul-le s s 17179869184 17179869184 (omega arith) (omega arith)) in
-    let fourth_small : 16 * fourth ≤ square = omega (arith, mul-le square square 4294967296 square below (omega arith)) in
-    let product : 16 * (fourth * s) ≤ square * s = omega (arith, mul-le (16 * fourth) s square s fourth_small (omega arith)) in
+    let below : square ≤ unit = omega (arith, mul-le s s unit unit h h) in
+    let fourth_small : fourth ≤ square = omega (arith, mul-le square square unit square below (omega arith)) in
+    let product : fourth * s ≤ square * s = mul-le fourth s square s fourth_small (omega arith) in
     let cube : square * s * unit ≤ s * s * s = omega (arith, mul-le (square * unit) s (s * s) s (omega arith) (omega arith)) in
     le-div (fifth s) (s * s * s) (3 * (unit * unit)) (omega arith) (omega (arith, product, cube))

@@ -95,10 +95,10 @@ fn halved(t: u128) -> u128
     t * UNIT / (UNIT + (UNIT * UNIT + t * t).isqrt())
 }
 
-// The angle whose tangent is `s`, by three terms of its series.
+// The angle whose tangent is `s`, which is at most 1, by three terms of its series.
 #[tactic(auto, unfolding(crate::specs::Triangle::angle), using(crate::proofs::Series::third_at_most, crate::proofs::Series::fifth_at_most))]
 fn angle(s: u128) -> u128
-    requires { s < 2 ^ 34 }
+    requires { s ≤ 2 ^ 36 }
     ensures value { result ≡ angle s }
     ensures size { result ≤ s }
 {
