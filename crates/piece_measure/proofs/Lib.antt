@@ -1,1 +1,5 @@
 mod Rounding
+mod Roots
+mod Sizes
+mod Series
+mod Denominator

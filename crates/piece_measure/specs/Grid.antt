@@ -2,12 +2,18 @@
 use Rattle.std.specs.Prelude.{ℕ, ℤ, pos, ◌*ℤ◌, unsigned_abs, max, List, [], ◌∷◌, map}
 use Rattle.std.specs.List.{range_with_len}
 use Rattle.vec_exact.specs.declared.Vec3.{Vec3}
+use Rattle.vec_exact.specs.Size.{Within}
+use Rattle.vec_exact.specs.Face.{vector_of}
 use Rattle.vec_exact.specs.Cycle.{corner}
 use Rattle.vec_exact.specs.Rounding.{rounded}
 
 -- the greatest size of a component
 abbrev pub component_size : Vec3 → ℕ
 component_size c = max (max (unsigned_abs c.x) (unsigned_abs c.y)) (unsigned_abs c.z)
+
+-- three numbers that are on the grid: none of them is above 2^28 in size
+abbrev pub IsOnGrid : List ℤ → Type 0
+IsOnGrid numbers = Within 268435456 (vector_of numbers)
 
 -- c with its greatest component brought to 2^28 in size, in whole numbers
 unfoldable pub grid_corner_of : Vec3 → List ℤ

@@ -3,5 +3,11 @@
 #![tactic(auto)]
 
 mod grid;
+mod piece;
+#[cfg(test)]
+mod tests;
+mod triangle;
 
 pub use grid::grid_corner;
+pub use piece::{GREATEST_MEASURE, measure};
+pub use triangle::tri;

@@ -1,0 +1,37 @@
+// Worked values.
+ghost use Rattle.piece_measure.specs.Grid.{IsOnGrid};
+
+use super::*;
+
+// The measure of a piece of three corners.
+fn of_three(a: [i32; 3], b: [i32; 3], c: [i32; 3]) -> i64
+    requires a_size { IsOnGrid a }
+    requires b_size { IsOnGrid b }
+    requires c_size { IsOnGrid c }
+{
+    measure(&[a, b, c])
+}
+
+#[test]
+fn octants(rt: HostRuntime) {
+    let r = 1 << 28;
+    let (x, y, z) = ([r, 0, 0], [0, r, 0], [0, 0, r]);
+    let (u, v, w) = ([-r, 0, 0], [0, -r, 0], [0, 0, -r]);
+    assert_eq!(rt; tri(x, y, z), 107_944_315_648);
+    let octants = [
+        of_three(x, y, z),
+        of_three(y, u, z),
+        of_three(u, v, z),
+        of_three(v, x, z),
+        of_three(y, x, w),
+        of_three(u, y, w),
+        of_three(v, u, w),
+        of_three(x, v, w),
+    ];
+    let mut sum: i64 = 0;
+    for octant in octants {
+        assert_eq!(rt; octant, 107_944_315_648);
+        sum = sum.wrapping_add(octant);
+    }
+    assert_eq!(rt; sum, 863_554_525_184);
+}
