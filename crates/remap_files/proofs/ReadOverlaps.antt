@@ -6,8 +6,7 @@ use Rattle.exodus_mesh.specs.declared.ids.NameFault.TheVariants as names
 use Rattle.exodus_mesh.specs.Names as name_words
 use Rattle.remap_files.specs.declared.vars.OverlapVars.{OverlapVars}
 use Rattle.remap_files.specs.declared.faults.FileFault.TheVariants.{Name}
-use Rattle.remap_files.specs.Answers.{Refuses}
-use Rattle.remap_files.specs.Found.{file_fault_of}
+use Rattle.remap_files.specs.Answers.{file_fault_of, Refuses}
 use Rattle.remap_files.specs.OverlapNames.{overlap_vars_in}
 use Rattle.remap_files.specs.OverlapRows.{overlap_of}
 use Rattle.remap_files.specs.OverlapIn.{lists_in, if_named, overlap_in}

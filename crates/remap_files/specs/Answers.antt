@@ -1,8 +1,14 @@
 -- What a call answers that reads a file, where it may want memory.
 use Rattle.std.specs.Prelude.{◌≡◌, ◌≢◌, Result, Err}
+use Rattle.exodus_mesh.specs.declared.ids.NameFault.{NameFault}
 use Rattle.exodus_mesh.specs.declared.ids.NameFault.TheVariants as names
 use Rattle.remap_files.specs.declared.faults.FileFault.{FileFault}
 use Rattle.remap_files.specs.declared.faults.FileFault.TheVariants.{Name, Row, AreaA, AreaB, NoMemory}
+
+-- the fault of a file with a fault of names; want of memory stays want of memory
+abbrev pub file_fault_of : NameFault → FileFault
+file_fault_of names.NoMemory = NoMemory
+file_fault_of fault = Name fault
 
 -- a fault that was answered is what was to be answered, unless memory ran out, which is said by NoMemory alone
 abbrev pub Refuses : {Y : Type 0} → FileFault → Result Y FileFault → Type 0

@@ -4,5 +4,4 @@ pub mod OverlapNames
 pub mod OverlapRows
 pub mod OverlapIn
 pub mod Rows
-pub mod Found
 pub mod InColumns

@@ -2,9 +2,8 @@
 ghost use Rattle.std.specs.Prelude.{◌≡◌, length, All, IfOk, IfErr, Ok};
 ghost use Rattle.nc_format.specs.Header.{IsHeader};
 ghost use Rattle.exodus_mesh.specs.Found.{IsSomeIntVar};
-ghost use Rattle.remap_files.specs.Answers.{Refuses, IsOfNamesOrRows};
+ghost use Rattle.remap_files.specs.Answers.{file_fault_of, Refuses, IsOfNamesOrRows};
 ghost use Rattle.remap_files.specs.OverlapIn.{lists_in, overlap_in};
-ghost use Rattle.remap_files.specs.Found.{file_fault_of};
 
 use crate::{FileFault, find_overlap, overlap_from};
 use clip::Overlap;
