@@ -1,0 +1,5 @@
+mod RowSums
+mod OneMore
+mod RightPieces
+mod FirstFaults
+mod Made
