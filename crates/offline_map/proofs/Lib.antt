@@ -1,4 +1,5 @@
-mod RowSums
+pub mod RowSums
+pub mod Exchange
 mod OneMore
 mod RightPieces
 mod FirstFaults

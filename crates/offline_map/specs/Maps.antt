@@ -1,12 +1,17 @@
 -- Maps as contracts see them, what each of them keeps, and the map of an overlap.
 -- Source: Ullrich and Taylor (2015), "Arbitrary-order conservative and consistent remapping and a theory of linear maps", for the map of first order over its own areas.
 -- That the measure of a row is a whole number is our own.
-use Rattle.std.specs.Prelude.{◌≡◌, ◌==◌, ℕ, ◌<◌, ◌≤◌, ◌⊎◌, ℤ, pos, ◌+ℤ◌, ◌≤ℤ◌, Bool, if◌then◌else◌, List, [], ◌∷◌, length, map, All, AllPairs}
+use Rattle.std.specs.Prelude.{◌≡◌, ◌==◌, ℕ, ◌<◌, ◌≤◌, ◌^◌, ◌⊎◌, ℤ, pos, ◌+ℤ◌, ◌≤ℤ◌, ◌<ℤ◌, Bool, if◌then◌else◌, List, [], ◌∷◌, length, map, All, AllPairs}
 use Rattle.std.specs.List.{range_with_len}
 use Rattle.clip.specs.declared.pieces.Piece.{Piece}
 use Rattle.clip.specs.Overlaps.{OverlapParts, IsFaceCount}
 use Rattle.piece_measure.specs.Piece.{piece_measure_of}
 use Rattle.offline_map.specs.declared.rows.MapRow.{MapRow}
+
+-- the sum of a list
+unfoldable pub total : List ℤ → ℤ
+total [] = pos 0
+total (x ∷ xs) = x +ℤ total xs
 
 -- the sum of f over the rows that meet the test
 unfoldable pub row_sum : (MapRow → Bool) → (MapRow → ℤ) → List MapRow → ℤ
@@ -59,6 +64,15 @@ pub record IsSoundMap (m : MapParts) : Type 0 where
   pub target_areas : m.area_b ≡ areas_of target_of m.n_b m.rows
   -- each target face has a row
   pub covered : All (λ (area : ℤ). pos 1 ≤ℤ area) m.area_b
+
+-- the areas of the two sides have one sum, which is below 2^63
+pub record HasFittingAreas (m : MapParts) : Type 0 where
+  pub same : total m.area_a ≡ total m.area_b
+  pub fit : total m.area_a <ℤ pos (2 ^ 63)
+
+-- what each map keeps is enough for that
+abbrev pub AreasFit : Type 0
+AreasFit = (m : MapParts) → IsSoundMap m → HasFittingAreas m
 
 -- the row of a piece: its two faces, and the measure of its corners
 abbrev pub row_of : Piece → MapRow

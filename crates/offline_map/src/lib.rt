@@ -12,7 +12,7 @@ mod rows;
 mod tests;
 
 pub use faults::MapFault;
-pub use laws::law_one_map_fault;
+pub use laws::{law_areas_fit, law_one_map_fault};
 pub use make::make_map;
 pub use maps::Map;
 pub use rows::{MapRow, MapRows};
