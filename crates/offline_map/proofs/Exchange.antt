@@ -1,11 +1,11 @@
 -- Two sums exchanged: over the faces of one side, and in each over its rows, is over all rows.
-use Rattle.std.proofs.Common.{◌≡◌, ◌≢◌, ℕ, zero, suc, ◌+◌, ◌*◌, ◌^◌, ◌<◌, ◌≤◌, inl, inr, ℤ, pos, ◌+ℤ◌, ◌≤ℤ◌, ◌<ℤ◌, Bool, true, false, cond, eqb, List, [], ◌∷◌, length, map, ap, sym, ◌∙◌, refl, arith, eq-eqb}
-use Rattle.std.specs.List.{All, range_with_len}
+use Rattle.std.proofs.Common.{◌≡◌, ℕ, zero, suc, ◌+◌, ◌*◌, ◌<◌, ◌≤◌, inl, inr, ℤ, pos, ◌+ℤ◌, ◌≤ℤ◌, Bool, true, cond, eqb, List, [], ◌∷◌, length, ap, sym, ◌∙◌, refl, arith, eq-eqb}
+use Rattle.std.specs.List.{All}
 use Rattle.std.proofs.lemmas.Int.{ints}
 use Rattle.std.proofs.lemmas.List.Elements.{All-head, All-tail, All-weaker}
 use Rattle.vec_exact.proofs.Cycles.{below_same_above}
 use Rattle.offline_map.specs.declared.rows.MapRow.{MapRow}
-use Rattle.offline_map.specs.Maps.{total, row_sum, area_of, areas_of, source_of, target_of, MapParts, IsSoundRow, IsSoundMap, HasFittingAreas, AreasFit}
+use Rattle.offline_map.specs.Maps.{total, row_sum, areas_of, source_of, target_of, IsSoundRow, AreasFit}
 use Rattle.offline_map.specs.Application.{sum_over}
 use Rattle.offline_map.proofs.RowSums.{differ, HasMeasure}
 

@@ -4,14 +4,13 @@ use Rattle.std.specs.List.{range_with_len}
 use lib.Pointwise.{pointwise}
 use Rattle.std.specs.Cmp.Rules.{signed_items}
 use Rattle.std.proofs.lemmas.Int.{ints}
-use Rattle.std.proofs.Math.IntN.{*ℤ_comm}
 use Rattle.std.proofs.lemmas.List.{take_more}
 use Rattle.std.proofs.lemmas.List.FromFn.{map-range_with_len_more, get_or-map-range_with_len}
-use borrow.Author.Differences.{product_is}
 use Rattle.vec_exact.specs.declared.Vec3.{Vec3}
 use Rattle.vec_exact.specs.Vector.{zero_triple, inner}
 use Rattle.vec_exact.specs.Cycle.{after, corner}
 use Rattle.vec_exact.proofs.Cycles.{turn}
+use Rattle.vec_exact.proofs.Identities.{inner_zero}
 use Rattle.cone_laws.specs.Ring.{planes_of_pair, listed, IsRing}
 use Rattle.piece_measure.specs.Grid.{grid_corner_of, grid_corners_of}
 
@@ -39,9 +38,6 @@ other_corner k n corners t s d x y v within here g c p differs e =
     differs
     (here ∙ ap (λ (xs : List (List ℤ)). get_or xs t d) e ∙ get_or-map-range_with_len (λ (u : ℕ). grid_corner_of (corner k n u)) 0 k t t d within (omega arith)
     ∙ sym (g ∙ ap grid_corner_of (c ∙ ap (corner k n) p)))
-
-inner_zero : (a : Vec3) → inner a zero_triple ≡ pos 0
-inner_zero a = omega (arith, ints, *ℤ_comm a.x (pos 0), product_is (pos 0) a.x, *ℤ_comm a.y (pos 0), product_is (pos 0) a.y, *ℤ_comm a.z (pos 0), product_is (pos 0) a.z)
 
 -- no corner of a ring is zero: some listed plane is positive on it
 pub corner_nonzero : (f g ps : List Vec3) (l : List ℕ) → ps ≡ planes_of_pair f g → IsRing f g l → (t : ℕ) → t < length l → corner (length l) (listed ps l) t ≢ zero_triple
