@@ -1,0 +1,6 @@
+pub mod Positive
+pub mod Runs
+pub mod CellHalves
+pub mod Counts
+pub mod Leaving
+pub mod Rules
