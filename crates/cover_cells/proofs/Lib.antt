@@ -4,3 +4,5 @@ pub mod CellHalves
 pub mod Counts
 pub mod Leaving
 pub mod Rules
+pub mod WholeTarget
+pub mod ThreeCorners

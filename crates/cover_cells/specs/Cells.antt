@@ -1,6 +1,6 @@
 -- Cells: what is left of a target face, as rings of edge planes that may be turned round. The target is given by its nodes.
 -- Source: our own.
-use Rattle.std.specs.Prelude.{◌≡◌, ◌≢◌, ℕ, ◌-◌, ◌<◌, ◌≤◌, pos, negsuc, ◌<ℤ◌, int_lt, nat_eq, Bool, false, ◌&&◌, if◌then◌else◌, List, [], ◌∷◌, length, map, All, count_by}
+use Rattle.std.specs.Prelude.{◌≡◌, ◌≢◌, ℕ, ◌+◌, ◌-◌, ◌<◌, ◌≤◌, pos, negsuc, ◌<ℤ◌, int_lt, nat_eq, Bool, false, ◌&&◌, if◌then◌else◌, List, [], ◌∷◌, length, map, All, count_by, slice_index_or}
 use Rattle.std.specs.List.{list_all}
 use Rattle.vec_exact.specs.declared.RawMesh.{RawMesh}
 use Rattle.vec_exact.specs.declared.Vec3.{Vec3}
@@ -73,3 +73,8 @@ pub record IsHalf (sources : RawMesh) (target : List Vec3) (cell : List CellPlan
 -- p is positive on no direction of cell
 abbrev pub HasNoHalf : RawMesh → List Vec3 → List CellPlane → CellPlane → Type 0
 HasNoHalf sources target cell p = (d : Vec3) → (is_positive d (plane_of sources target p) && is_in_cell sources target d cell) ≡ false
+
+-- the edges of a target of n edges, in order
+pub record AreTargetEdges (n : ℕ) (cell : List CellPlane) : Type 0 where
+  pub len : length cell ≡ n
+  pub each : (t : ℕ) (e : CellPlane) → t < n → slice_index_or cell t e ≡ record { source = 0; edge = t + 1; neg = false }

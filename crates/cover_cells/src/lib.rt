@@ -4,8 +4,12 @@
 mod cells;
 mod cutting;
 mod halves;
+mod inner;
 mod planes;
 mod sides;
+mod targets;
 
 pub use cells::{Cell, CellPlane, Cells};
 pub use cutting::cut_cells;
+pub use inner::inner_direction;
+pub use targets::whole_target;
