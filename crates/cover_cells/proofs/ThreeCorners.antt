@@ -1,9 +1,9 @@
 -- The sum of the first three corners of a ring is inside it.
-use Rattle.std.proofs.Common.{◌≡◌, ◌≢◌, ℕ, suc, ◌<◌, ◌≤◌, pos, ◌<ℤ◌, List, length, true, arith, ap, sym, ◌∙◌, inl, inr, subst}
+use Rattle.std.proofs.Common.{◌≡◌, ◌≢◌, ℕ, ◌≤◌, List, length, true, arith, ap, sym, ◌∙◌, inl, inr, subst}
 use Rattle.std.proofs.lemmas.Int.{ints}
 use Rattle.vec_exact.specs.declared.RawMesh.{RawMesh}
 use Rattle.vec_exact.specs.declared.Vec3.{Vec3}
-use Rattle.vec_exact.specs.Vector.{inner, added}
+use Rattle.vec_exact.specs.Vector.{added}
 use Rattle.vec_exact.specs.Cycle.{after, corner, Convex, vector_at}
 use Rattle.vec_exact.proofs.Identities.{inner_added}
 use Rattle.vec_exact.proofs.Cycles.{same_or_not, after_inner, after_last, corner_nonneg}

@@ -1,5 +1,5 @@
 -- The cell of a target's own edges.
-use Rattle.std.proofs.Common.{◌≡◌, ℕ, zero, suc, ◌+◌, ◌<◌, pos, ◌<ℤ◌, Bool, true, false, List, [], ◌∷◌, length, map, arith, ap, sym, ◌∙◌, subst, ◌↔◌, slice_index_or, cond}
+use Rattle.std.proofs.Common.{◌≡◌, ℕ, zero, suc, ◌+◌, ◌<◌, pos, ◌<ℤ◌, Bool, true, false, List, [], ◌∷◌, length, arith, ap, sym, ◌∙◌, subst, ◌↔◌, slice_index_or, cond}
 use Rattle.std.specs.Prelude.{All}
 use Rattle.std.proofs.lemmas.Bool.{false_from_ne_true}
 use Rattle.std.proofs.lemmas.List.{get_or-map, length-map}

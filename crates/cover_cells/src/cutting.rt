@@ -21,8 +21,9 @@ fn join(cells: &mut Cells, mut more: Cells) -> Result<(), AllocError>
 
 /// The cells of target `j` of `b` less face `i` of `a`; faces count from 1.
 ///
-/// The planes of the face split each cell, one after another, so that what is left of a cell is
-/// several cells. Of a direction on a plane of the face no cell may be left.
+/// The planes of the face split each cell, one after another, so that what is left of a cell may be
+/// several cells. A direction on an edge plane of the face may be left in none of them. Its only
+/// error is want of memory.
 pub fn cut_cells(
     alloc: Global,
     a: &Mesh,
@@ -53,7 +54,7 @@ pub fn cut_cells(
         IfOk result (λ left. (d : Direction) → IsOffEdges (corners_of a.now i) d
         → ¬ IsInside (corners_of a.now i) d → with d left ≡ with d cells.now) }
 
-    // The same, with what holds on the edge planes too.
+    // The same, and what holds on the edge planes too.
     ensures count { let with = cells_with a.now (corners_of b.now j) in
         IfOk result (λ left. (d : Direction)
         → with d left ≡ number_if (leaves d (face_planes (corners_of a.now i))) (with d cells.now)) }

@@ -8,6 +8,8 @@ mod inner;
 mod planes;
 mod sides;
 mod targets;
+#[cfg(test)]
+mod tests;
 
 pub use cells::{Cell, CellPlane, Cells};
 pub use cutting::cut_cells;
