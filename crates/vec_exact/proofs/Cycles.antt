@@ -63,6 +63,30 @@ pub shifted_late : (k j t : ℕ) → k ≤ t + j → shifted k j t ≡ t + j - k
 unfolding shifted
 shifted_late k j t l = grind arith
 
+pub shifted_first : (k j : ℕ) → j < k → shifted k j 0 ≡ j
+unfolding shifted
+shifted_first k j h = grind arith
+
+pub shifted_next : (k j t : ℕ) → j < k → t < k → after k (shifted k j t) ≡ shifted k j (suc t)
+unfolding after shifted
+shifted_next k j t h l = grind arith
+
+-- each place is some places after j
+pub place_back : (k j s : ℕ) → j ≤ k → s < k → (t : ℕ) × (t < k) × (shifted k j t ≡ s)
+place_back k j s l ls =
+    elim (below_same_above s j) [
+      | inl lt ↦ (s + (k - j), omega arith, shifted_late k j (s + (k - j)) (omega arith) ∙ omega arith)
+      | inr o ↦ (s - j, omega (arith, o), shifted_early k j (s - j) (omega (arith, o)) ∙ omega (arith, o))
+    ]
+
+-- a cycle that begins after t ends with t
+pub last_is : (k t : ℕ) → t < k → shifted k (after k t) (k - 1) ≡ t
+last_is k t l =
+    elim (same_or_not (suc t) k) [
+      | inl e ↦ ap (λ (j : ℕ). shifted k j (k - 1)) (after_last k t e) ∙ shifted_early k 0 (k - 1) (omega arith) ∙ omega arith
+      | inr ne ↦ ap (λ (j : ℕ). shifted k j (k - 1)) (after_inner k t (omega arith)) ∙ shifted_late k (suc t) (k - 1) (omega arith) ∙ omega arith
+    ]
+
 pub shifted_corner : (n : ℕ → Vec3) (k j t : ℕ) → j ≤ k → t < k → corner k (λ u. n (shifted k j u)) t ≡ corner k n (shifted k j t)
 unfolding corner
 shifted_corner n k j t h l = ap (λ (u : ℕ). cross (n (shifted k j t)) (n u)) (shifted_after k j t h l)

@@ -8,3 +8,5 @@ pub mod Identities
 pub mod Planes
 pub mod Cycles
 pub mod Accepted
+pub mod Roots
+pub mod Ranges

@@ -6,3 +6,5 @@ pub mod Cycle
 pub mod Face
 pub mod Counts
 pub mod Panel
+pub mod Root
+pub mod Answers

@@ -1,6 +1,7 @@
 -- The sizes of triples with which 128 bits are enough.
 use Rattle.std.specs.Prelude.{ℕ, ◌≤◌, ◌⊎◌, unsigned_abs}
 use Rattle.vec_exact.specs.declared.Vec3.{Vec3}
+use Rattle.vec_exact.specs.declared.limits.TheConstants.{MAX_COORDINATE}
 
 -- each component is at most m in size
 pub record Within (m : ℕ) (v : Vec3) : Type 0 where
@@ -8,9 +9,9 @@ pub record Within (m : ℕ) (v : Vec3) : Type 0 where
   pub y : unsigned_abs v.y ≤ m
   pub z : unsigned_abs v.z ≤ m
 
--- a node: each component is at most 2^18 - 1 in size
+-- a node: each component is at most 262,143 in size, which is 2^18 - 1
 abbrev pub Is18 : Vec3 → Type 0
-Is18 v = Within 262143 v
+Is18 v = Within MAX_COORDINATE v
 
 -- a plane: each component is below 2^37 in size
 abbrev pub Is37 : Vec3 → Type 0

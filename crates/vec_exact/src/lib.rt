@@ -1,8 +1,10 @@
 //! Whole-number vectors and raw meshes, as every layer above names them.
 #![tactic(auto)]
 
+mod limits;
 mod lists;
 mod panels;
+mod places;
 mod rounding;
 mod steps;
 #[cfg(test)]
@@ -11,8 +13,13 @@ mod vectors;
 
 ghost use Rattle.std.specs.Prelude.{◌≡◌};
 
+pub use limits::{
+    MAX_COORDINATE, MAX_FACE_NODES, MAX_FACES, MAX_FILE_LEN, MAX_MEASURE, MAX_NODES, MAX_PIECES,
+    MAX_WORKERS,
+};
 pub use lists::{Faces, Ints, Longs, Nodes};
 pub use panels::Panel;
+pub use places::{next_place, place_after};
 pub use rounding::{isqrt, round_div};
 use std::alloc::{AllocError, AllocFailed};
 pub use steps::Steps;

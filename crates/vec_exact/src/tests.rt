@@ -1,7 +1,7 @@
 // Worked values of each call.
 ghost use Rattle.std.specs.Prelude.{◌≡◌, ◌<◌};
 
-use crate::{Sign, Steps, Vec3, cross, det, dot, isqrt, round_div, side};
+use crate::{Sign, Steps, Vec3, cross, det, dot, isqrt, next_place, place_after, round_div, side};
 use std::marker::Brand;
 use std::sync::ledger::{Blank, Ledger};
 
@@ -58,6 +58,14 @@ fn square_roots(rt: HostRuntime) {
     ] {
         assert_eq!(rt; isqrt(x), want, "of {x}");
     }
+}
+
+#[test]
+fn places(rt: HostRuntime) {
+    assert_eq!(rt; next_place(4, 2), 3);
+    assert_eq!(rt; next_place(4, 3), 0);
+    assert_eq!(rt; place_after(4, 3, 0), 3);
+    assert_eq!(rt; place_after(4, 3, 2), 1);
 }
 
 fn take_two<L: Ledger>(blank: Blank)
