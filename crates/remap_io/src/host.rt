@@ -5,13 +5,16 @@ ghost use Rattle.remap_io.specs.Causes.{held_sum, IsLater};
 ghost use Rattle.remap_io.specs.Host.{with_asked};
 
 use crate::files::{FileErr, Files, PutErr};
+use crate::replacing::replace_file;
 use crate::sink::Sink;
 use std::io::{ErrorKind, Read, Seek, SeekFrom, Write};
 use std::marker::Model;
 use std::{fs, io};
 
 /// The files of a runtime. One count rises at each name that isn't found, one at each other error
-/// of `size` or `read_at`, a short read included, and one at each error of `replace`.
+/// of `size` or `read_at`, a short read included, and one at each error of `replace`. A regular
+/// file, or a name that is free, is replaced whole or stays as it was; anything else is written in
+/// place.
 #[derive(Drop)]
 pub struct HostFiles<R: std::rt::Files> {
     rt: R,
@@ -129,7 +132,7 @@ impl<R: std::rt::Files> Files for HostFiles<R> {
         ensures only_failed { IsOkUnless result PutErr.Failed }
         ensures later_write_faults { IsLater self.old.write_faults self.new.write_faults }
     {
-        match fs::write(&self.rt, name, bytes) {
+        match replace_file(&self.rt, name, bytes) {
             Ok(()) => Ok(()),
             Err(_) => {
                 self.write_faults = self.write_faults.saturating_add(1);

@@ -5,6 +5,7 @@ mod files;
 mod host;
 mod mem_files;
 mod mem_sink;
+mod replacing;
 mod schedule;
 mod sink;
 mod steady;
@@ -17,5 +18,7 @@ pub use mem_sink::MemSink;
 pub use sink::Sink;
 pub use steady::{SteadyFiles, SteadySink};
 
+#[cfg(test)]
+mod replacing_tests;
 #[cfg(test)]
 mod tests;

@@ -1,0 +1,149 @@
+// Files of the machine are replaced whole, or stay as they were.
+use crate::{Files, HostFiles, PutErr};
+use std::fs::{self, Metadata, OpenFile, OpenOptions, Permissions};
+use std::io::{self, Error, ErrorKind, Read, Seek, SeekFrom, Write};
+use std::os::unix::fs::PermissionsExt;
+use std::test::Fail;
+
+// A device without room: no file takes a byte.
+#[derive(Drop)]
+struct Full<R: std::rt::Files>(R);
+
+#[derive(Drop)]
+struct FullFile<F: Read + Write + Seek + OpenFile + Drop>(F);
+
+impl<F: Read + Write + Seek + OpenFile + Drop> Read for FullFile<F> {
+    fn read(&mut self, buf: &mut [u8]) -> io::Result<usize> {
+        self.0.read(buf)
+    }
+}
+
+impl<F: Read + Write + Seek + OpenFile + Drop> Write for FullFile<F> {
+    fn write(&mut self, _buf: &[u8]) -> io::Result<usize> {
+        Err(Error::from(ErrorKind::StorageFull))
+    }
+
+    fn flush(&mut self) -> io::Result<()> {
+        self.0.flush()
+    }
+}
+
+impl<F: Read + Write + Seek + OpenFile + Drop> Seek for FullFile<F> {
+    fn seek(&mut self, to: SeekFrom) -> io::Result<u64> {
+        self.0.seek(to)
+    }
+}
+
+impl<F: Read + Write + Seek + OpenFile + Drop> OpenFile for FullFile<F> {
+    fn metadata(&self) -> io::Result<Metadata> {
+        self.0.metadata()
+    }
+
+    fn set_len(&self, size: u64) -> io::Result<()> {
+        self.0.set_len(size)
+    }
+
+    fn sync_all(&self) -> io::Result<()> {
+        self.0.sync_all()
+    }
+
+    fn sync_data(&self) -> io::Result<()> {
+        self.0.sync_data()
+    }
+}
+
+impl<R: std::rt::Files> std::rt::Files for Full<R> {
+    type File = FullFile<R::File>;
+
+    type Dir = R::Dir;
+
+    fn open_file(&self, how: &OpenOptions, path: &str) -> io::Result<FullFile<R::File>> {
+        Ok(FullFile(self.0.open_file(how, path)?))
+    }
+
+    fn open_dir(&self, path: &str) -> io::Result<R::Dir> {
+        self.0.open_dir(path)
+    }
+
+    fn metadata(&self, path: &str) -> io::Result<Metadata> {
+        self.0.metadata(path)
+    }
+
+    fn symlink_metadata(&self, path: &str) -> io::Result<Metadata> {
+        self.0.symlink_metadata(path)
+    }
+
+    fn copy(&self, from: &str, to: &str) -> io::Result<u64> {
+        self.0.copy(from, to)
+    }
+
+    fn rename(&self, from: &str, to: &str) -> io::Result<()> {
+        self.0.rename(from, to)
+    }
+
+    fn remove_file(&self, path: &str) -> io::Result<()> {
+        self.0.remove_file(path)
+    }
+
+    fn create_dir(&self, path: &str) -> io::Result<()> {
+        self.0.create_dir(path)
+    }
+
+    fn remove_dir(&self, path: &str) -> io::Result<()> {
+        self.0.remove_dir(path)
+    }
+
+    fn remove_dir_all<B: std::alloc::Allocator>(&self, alloc: B, path: &str) -> io::Result<()> {
+        self.0.remove_dir_all(alloc, path)
+    }
+}
+
+#[test]
+fn a_file_is_replaced_whole(rt: HostRuntime) -> Result<(), Fail> {
+    let mut files = HostFiles::new(rt);
+    fs::write(&rt, "whole.tmp", b"old")?;
+    fs::set_permissions(&rt, "whole.tmp", Permissions::from_mode(0o640))?;
+    fs::write(&rt, "whole.tmp.tempest-new", b"another's")?;
+    assert_eq!(rt; files.replace("whole.tmp", b"new bytes"), Ok(()));
+    assert_eq!(rt;
+        fs::read(&rt, "whole.tmp")?.as_slice(),
+        b"new bytes".as_slice()
+    );
+    assert_eq!(rt;
+        fs::read(&rt, "whole.tmp.tempest-new")?.as_slice(),
+        b"another's".as_slice()
+    );
+    assert_eq!(rt; fs::exists(&rt, "whole.tmp.tempest-new1")?, false);
+    let mode = fs::metadata(&rt, "whole.tmp")?.permissions().mode();
+    assert_eq!(rt; mode & 0o777, 0o640);
+    fs::remove_file(&rt, "whole.tmp.tempest-new")?;
+    fs::remove_file(&rt, "whole.tmp")?;
+    Ok(())
+}
+
+#[test]
+fn without_room_a_file_stays_as_it_was(rt: HostRuntime) -> Result<(), Fail> {
+    let mut files = HostFiles::new(Full(rt));
+    fs::write(&rt, "stays.tmp", b"old")?;
+    assert_eq!(rt; files.replace("stays.tmp", b"new"), Err(PutErr::Failed));
+    assert_eq!(rt; files.replace("none.tmp", b"new"), Err(PutErr::Failed));
+    assert_eq!(rt; fs::read(&rt, "stays.tmp")?.as_slice(), b"old".as_slice());
+    for name in ["stays.tmp.tempest-new", "none.tmp", "none.tmp.tempest-new"] {
+        assert_eq!(rt; fs::exists(&rt, name)?, false, "{name}");
+    }
+    fs::remove_file(&rt, "stays.tmp")?;
+    Ok(())
+}
+
+#[test]
+fn a_link_is_written_in_place(rt: HostRuntime) -> Result<(), Fail> {
+    let mut files = HostFiles::new(rt);
+    fs::write(&rt, "target.tmp", b"a longer text")?;
+    std::os::unix::fs::symlink(&rt, "target.tmp", "link.tmp")?;
+    assert_eq!(rt; files.replace("link.tmp", b"new"), Ok(()));
+    assert_eq!(rt; fs::symlink_metadata(&rt, "link.tmp")?.is_symlink(), true);
+    assert_eq!(rt; fs::read(&rt, "target.tmp")?.as_slice(), b"new".as_slice());
+    fs::remove_file(&rt, "link.tmp")?;
+    fs::remove_file(&rt, "target.tmp")?;
+    Ok(())
+}
