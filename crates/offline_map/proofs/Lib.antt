@@ -1,5 +1,3 @@
-pub mod RowSums
-pub mod Exchange
 mod OneMore
 mod RightPieces
 mod FirstFaults

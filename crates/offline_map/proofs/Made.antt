@@ -9,13 +9,14 @@ use Rattle.vec_exact.proofs.Cycles.{below_same_above}
 use Rattle.clip.specs.declared.pieces.Piece.{Piece}
 use Rattle.clip.specs.Overlaps.{OverlapParts, IsBefore, IsFaceCount, IsSoundPiece, IsSoundOverlap}
 use Rattle.piece_measure.specs.Piece.{piece_measure_of}
-use Rattle.offline_map.specs.declared.rows.MapRow.{MapRow}
+use Rattle.map_rows.specs.declared.rows.MapRow.{MapRow}
+use Rattle.map_rows.specs.Maps.{measure_of, sum_at, areas_of, source_of, target_of, ComesBefore, IsSoundRow, IsSoundMap}
+use Rattle.map_rows.proofs.FaceSums.{differ, length-sums_of, get_or-sums_of, sum_at-none, sum_at-cons}
 use Rattle.offline_map.specs.declared.faults.MapFault.{MapFault}
 use Rattle.offline_map.specs.declared.faults.MapFault.TheVariants.{CountsA, CountsB, Row, Uncovered, NoMemory}
-use Rattle.offline_map.specs.Maps.{row_sum, area_of, areas_of, source_of, target_of, ComesBefore, IsSoundRow, IsSoundMap, row_of}
+use Rattle.offline_map.specs.Maps.{row_of}
 use Rattle.offline_map.specs.MapFaults.{IsRightPiece, HasCountsOf, HasRow, IsFaultOfAreas, IsMapFaultOf}
 use Rattle.offline_map.proofs.FirstFaults.{no_piece}
-use Rattle.offline_map.proofs.RowSums.{differ, length-areas_of, get_or-areas_of}
 
 measure_bounds : (corners : List (List ℤ)) → (1 ≤ piece_measure_of corners) × (piece_measure_of corners ≤ 1099511627775)
 unfolding piece_measure_of
@@ -42,34 +43,32 @@ pub target_areas_of : (o : OverlapParts) (n : ℕ) (rows : List MapRow) (areas :
 target_areas_of o n rows areas e f g = g ∙ ap₂ (λ (m : ℕ) (xs : List MapRow). areas_of target_of m xs) e f
 
 -- ---- an area is at least 1 exactly where there is a row
-area_least : (pieces : List Piece) (j : ℕ) → pos 0 ≤ℤ area_of target_of (map row_of pieces) j
-unfolding row_sum
-area_least [] j = omega (arith, ints)
-area_least (p ∷ pieces) j =
-    elim (eqb p.b j) as (λ t. pos 0 ≤ℤ (cond t (pos (piece_measure_of p.corners)) (pos 0) +ℤ area_of target_of (map row_of pieces) j)) [
-      | true ↦ omega (arith, ints, area_least pieces j)
-      | false ↦ omega (arith, ints, area_least pieces j)
-    ]
+abbrev piece_area : List Piece → ℕ → ℤ
+piece_area pieces j = sum_at target_of measure_of (map row_of pieces) j
 
-area_other : (p : Piece) (pieces : List Piece) (j : ℕ) → p.b ≢ j → area_of target_of (map row_of (p ∷ pieces)) j ≡ area_of target_of (map row_of pieces) j
-unfolding row_sum
+area-cons : (p : Piece) (pieces : List Piece) (j : ℕ) → piece_area (p ∷ pieces) j ≡ cond (eqb p.b j) (pos (piece_measure_of p.corners)) (pos 0) +ℤ piece_area pieces j
+area-cons p pieces j = sum_at-cons target_of measure_of (row_of p) (map row_of pieces) j
+
+part_least : (b : Bool) (s : ℕ) → pos 0 ≤ℤ cond b (pos s) (pos 0)
+part_least true s = omega (arith, ints)
+part_least false s = omega (arith, ints)
+
+area_least : (pieces : List Piece) (j : ℕ) → pos 0 ≤ℤ piece_area pieces j
+area_least [] j = omega (arith, ints, sum_at-none target_of measure_of j)
+area_least (p ∷ pieces) j = omega (arith, ints, area-cons p pieces j, part_least (eqb p.b j) (piece_measure_of p.corners), area_least pieces j)
+
+area_other : (p : Piece) (pieces : List Piece) (j : ℕ) → p.b ≢ j → piece_area (p ∷ pieces) j ≡ piece_area pieces j
 area_other p pieces j n =
-    let none : (pos 0 +ℤ area_of target_of (map row_of pieces) j) ≡ area_of target_of (map row_of pieces) j = omega (arith, ints) in
-    ap (λ (t : Bool). cond t (pos (piece_measure_of p.corners)) (pos 0) +ℤ area_of target_of (map row_of pieces) j) (differ p.b j n) ∙ none
+    let none : (pos 0 +ℤ piece_area pieces j) ≡ piece_area pieces j = omega (arith, ints) in
+    area-cons p pieces j ∙ ap (λ (t : Bool). cond t (pos (piece_measure_of p.corners)) (pos 0) +ℤ piece_area pieces j) (differ p.b j n) ∙ none
 
-area_same : (p : Piece) (pieces : List Piece) (j : ℕ) → p.b ≡ j → area_of target_of (map row_of (p ∷ pieces)) j ≡ pos (piece_measure_of p.corners) +ℤ area_of target_of (map row_of pieces) j
-unfolding row_sum
-area_same p pieces j e = ap (λ (t : Bool). cond t (pos (piece_measure_of p.corners)) (pos 0) +ℤ area_of target_of (map row_of pieces) j) (eq-eqb p.b j e)
+area_same : (p : Piece) (pieces : List Piece) (j : ℕ) → p.b ≡ j → piece_area (p ∷ pieces) j ≡ pos (piece_measure_of p.corners) +ℤ piece_area pieces j
+area_same p pieces j e = area-cons p pieces j ∙ ap (λ (t : Bool). cond t (pos (piece_measure_of p.corners)) (pos 0) +ℤ piece_area pieces j) (eq-eqb p.b j e)
 
-area_at_least : (p : Piece) (pieces : List Piece) (j : ℕ) → area_of target_of (map row_of pieces) j ≤ℤ area_of target_of (map row_of (p ∷ pieces)) j
-unfolding row_sum
-area_at_least p pieces j =
-    elim (eqb p.b j) as (λ t. area_of target_of (map row_of pieces) j ≤ℤ (cond t (pos (piece_measure_of p.corners)) (pos 0) +ℤ area_of target_of (map row_of pieces) j)) [
-      | true ↦ omega (arith, ints)
-      | false ↦ omega (arith, ints)
-    ]
+area_at_least : (p : Piece) (pieces : List Piece) (j : ℕ) → piece_area pieces j ≤ℤ piece_area (p ∷ pieces) j
+area_at_least p pieces j = omega (arith, ints, area-cons p pieces j, part_least (eqb p.b j) (piece_measure_of p.corners))
 
-has_area : (pieces : List Piece) (j k : ℕ) (q : Piece) → k < length pieces → get_or pieces k q ≡ q → q.b ≡ j → pos 1 ≤ℤ area_of target_of (map row_of pieces) j
+has_area : (pieces : List Piece) (j k : ℕ) (q : Piece) → k < length pieces → get_or pieces k q ≡ q → q.b ≡ j → pos 1 ≤ℤ piece_area pieces j
 has_area [] j k q l e b = absurd (omega (arith, l))
 has_area (p ∷ pieces) j zero q l e b =
     let here : p.b ≡ j = ap (λ (r : Piece). r.b) e ∙ b in
@@ -80,9 +79,8 @@ has_area (p ∷ pieces) j (suc k) q l e b = omega (arith, ints, has_area pieces 
 one_more_piece : (p : Piece) (pieces : List Piece) (j : ℕ) → HasRow pieces j → HasRow (p ∷ pieces) j
 one_more_piece p pieces j h = (suc h.0, h.1, omega (arith, h.2), h.3, h.4)
 
-has_row : (pieces : List Piece) (j : ℕ) → pos 1 ≤ℤ area_of target_of (map row_of pieces) j → HasRow pieces j
-unfolding row_sum
-has_row [] j h = absurd (omega (arith, ints, h))
+has_row : (pieces : List Piece) (j : ℕ) → pos 1 ≤ℤ piece_area pieces j → HasRow pieces j
+has_row [] j h = absurd (omega (arith, ints, h, sum_at-none target_of measure_of j))
 has_row (p ∷ pieces) j h =
     elim (below_same_above p.b j) [
       | inl l ↦ one_more_piece p pieces j (has_row pieces j (subst (λ (x : ℤ). pos 1 ≤ℤ x) (area_other p pieces j (omega (arith, l))) h))
@@ -92,11 +90,11 @@ has_row (p ∷ pieces) j h =
 
 -- the area at place k
 area_at : (o : OverlapParts) (areas : List ℤ) (k j : ℕ) (d : ℤ) → areas ≡ areas_of target_of o.faces_b (map row_of o.pieces) → k < o.faces_b → 1 + k ≡ j
-    → get_or areas k d ≡ area_of target_of (map row_of o.pieces) j
-area_at o areas k j d e l p = ap (λ (xs : List ℤ). get_or xs k d) e ∙ get_or-areas_of target_of o.faces_b (map row_of o.pieces) k j d l p
+    → get_or areas k d ≡ piece_area o.pieces j
+area_at o areas k j d e l p = ap (λ (xs : List ℤ). get_or xs k d) e ∙ get_or-sums_of target_of measure_of o.faces_b (map row_of o.pieces) k j d l p
 
 size_of_areas : (o : OverlapParts) (areas : List ℤ) → areas ≡ areas_of target_of o.faces_b (map row_of o.pieces) → length areas ≡ o.faces_b
-size_of_areas o areas e = ap (length {A = ℤ}) e ∙ length-areas_of target_of o.faces_b (map row_of o.pieces)
+size_of_areas o areas e = ap (length {A = ℤ}) e ∙ length-sums_of target_of measure_of o.faces_b (map row_of o.pieces)
 
 pub few_areas : (o : OverlapParts) (areas : List ℤ) → IsSoundOverlap o → areas ≡ areas_of target_of o.faces_b (map row_of o.pieces) → length areas ≤ 1048576
 few_areas o areas s e = omega (arith, size_of_areas o areas e, s.target_faces.1)

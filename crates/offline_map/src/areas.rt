@@ -1,9 +1,10 @@
 // The areas of the faces: the sums of the measures of their rows.
 ghost use Rattle.std.specs.Prelude.{◌≡◌, ◌<◌, ◌≤◌, ◌-◌, pos, ◌+ℤ◌, ◌≤ℤ◌, ◌<ℤ◌, ◌^◌, All, IfOk, IfErr, OnOk, length, slice_set, slice_index_or};
-ghost use Rattle.offline_map.specs.Maps.{IsSoundRow, areas_of, source_of, target_of};
+ghost use Rattle.map_rows.specs.Maps.{IsSoundRow, areas_of, source_of, target_of};
 ghost use Rattle.offline_map.specs.MapFaults.{IsFaultOfAreas};
 
-use crate::{MapFault, MapRow};
+use crate::MapFault;
+use map_rows::MapRow;
 use std::alloc::{AllocError, Global};
 
 // The areas of all faces, those of the source mesh and those of the target mesh.

@@ -6,10 +6,11 @@ ghost use Rattle.offline_map.specs.MapFaults.{overlap_of, HasCountsOf, IsMappabl
 ghost use Rattle.offline_map.specs.declared.faults.MapFault.{MapFault as FirstFault};
 ghost use Rattle.offline_map.specs.declared.faults.MapFault.TheVariants.{NoMemory as MapNoMemory};
 
+use crate::MapFault;
 use crate::areas::{areas_of_rows, check_covered};
 use crate::pieces::tested_rows;
-use crate::{Map, MapFault, MapRows};
 use clip::{Overlap, Piece};
+use map_rows::{Map, MapRows};
 use mesh_check::{Mesh, face_count};
 use std::alloc::Global;
 use vec_exact::Longs;

@@ -9,8 +9,9 @@ ghost use Rattle.piece_measure.specs.Grid.{IsOnGrid, grid_corners_of};
 ghost use Rattle.offline_map.specs.Maps.{row_of};
 ghost use Rattle.offline_map.specs.MapFaults.{IsRightPiece, IsFaultOfPieces};
 
-use crate::{MapFault, MapRow};
+use crate::MapFault;
 use clip::{Piece, PlaneList, Ring, corner, is_ring, planes};
+use map_rows::MapRow;
 use mesh_check::Mesh;
 use piece_measure::{grid_corner, measure};
 use std::alloc::Global;

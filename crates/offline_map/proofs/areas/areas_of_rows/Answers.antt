@@ -1,9 +1,9 @@
 use Rattle.std.proofs.Common.{◌≡◌, length, pos, get_or, arith, ◌∙◌}
 use Rattle.std.proofs.lemmas.List.Elements.{All-get_or}
-use Rattle.offline_map.specs.declared.rows.MapRow.{MapRow}
-use Rattle.offline_map.specs.Maps.{IsSoundRow, source_of, target_of}
-use Rattle.offline_map.proofs.RowSums.{no_areas}
-use Rattle.offline_map.proofs.OneMore.{kept, measures, sum_bounds, areas_more, written}
+use Rattle.map_rows.specs.declared.rows.MapRow.{MapRow}
+use Rattle.map_rows.specs.Maps.{IsSoundRow, measure_of, source_of, target_of}
+use Rattle.map_rows.proofs.FaceSums.{no_sums, sums_more}
+use Rattle.offline_map.proofs.OneMore.{kept, measures, sum_bounds, written}
 use Rattle.offline_map.proofs.areas.areas_of_rows.Goals as goal
 
 abbrev no_row : MapRow
@@ -11,8 +11,8 @@ no_row = record { col = 0; row = 0; s = pos 0 }
 
 pub loop-row-init : goal.loop-row-init
 loop-row-init c = (
-  no_areas source_of c.args.n_a c.in_ok-source.source.items (c.in_ok-source.ensures.items_if_clones_equal (λ y e. e)),
-  no_areas target_of c.args.n_b c.in_ok-target.target.items (c.in_ok-target.ensures.items_if_clones_equal (λ y e. e)),
+  no_sums source_of measure_of c.args.n_a c.in_ok-source.source.items (c.in_ok-source.ensures.items_if_clones_equal (λ y e. e)),
+  no_sums target_of measure_of c.args.n_b c.in_ok-target.target.items (c.in_ok-target.ensures.items_if_clones_equal (λ y e. e)),
 )
 
 pub add_measure-requires-clause-least : goal.add_measure-requires-clause-least
@@ -60,10 +60,10 @@ loop-row-preserved c =
     let r = get_or rows k no_row in
     let sound = All-get_or (IsSoundRow c.args.n_a c.args.n_b) rows k no_row (omega arith) c.requires.rows in
     let same = kept r.s (sound.least, sound.greatest) in
-    let source = areas_more source_of c.args.n_a rows k no_row _ c.deref_mut.result.now c.add_measure.new.areas (c.deref_mut.ensures.value ∙ c.loop-row.invariant.0) (omega arith)
+    let source = sums_more source_of measure_of c.args.n_a rows k no_row _ c.deref_mut.result.now c.add_measure.new.areas (c.deref_mut.ensures.value ∙ c.loop-row.invariant.0) (omega arith)
     same sound.source.0 sound.source.1 c.add_measure.ensures
     in
-    let target = areas_more target_of c.args.n_b rows k no_row _ c.deref_mut-in-loop-row.result.now c.add_measure-in-loop-row.new.areas
+    let target = sums_more target_of measure_of c.args.n_b rows k no_row _ c.deref_mut-in-loop-row.result.now c.add_measure-in-loop-row.new.areas
     (c.deref_mut-in-loop-row.ensures.value ∙ c.loop-row.invariant.1) (omega arith) same sound.target.0 sound.target.1 c.add_measure-in-loop-row.ensures
     in
     let a : length c.add_measure.new.areas ≡ c.loop-row.source.len = omega (arith, c.deref_mut.ensures.len) in

@@ -1,5 +1,5 @@
 use Rattle.std.proofs.Common.{◌≡◌, take}
-use Rattle.offline_map.specs.Maps.{areas_of, source_of, target_of}
+use Rattle.map_rows.specs.Maps.{areas_of, source_of, target_of}
 use Rattle.offline_map.proofs.areas.areas_of_rows.Given as goal
 
 abbrev pub invariant-loop-row : goal.invariant-loop-row

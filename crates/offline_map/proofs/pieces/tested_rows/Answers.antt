@@ -1,7 +1,7 @@
 use Rattle.std.proofs.Common.{◌≡◌, ◌+◌, [], ◌∷◌, ◌++◌, List, map, take, ap, ap₂, sym, ◌∙◌, arith}
 use Rattle.std.proofs.lemmas.List.{take_more, map-append}
 use Rattle.std.proofs.lemmas.List.Elements.{All-more, at_read}
-use Rattle.offline_map.specs.declared.rows.MapRow.{MapRow}
+use Rattle.map_rows.specs.declared.rows.MapRow.{MapRow}
 use Rattle.offline_map.specs.Maps.{row_of}
 use Rattle.offline_map.specs.MapFaults.{IsRightPiece}
 use Rattle.offline_map.proofs.pieces.tested_rows.Goals as goal

@@ -1,0 +1,5 @@
+pub mod Products
+pub mod FaceSums
+pub mod Exchange
+pub mod Masses
+pub mod Bounds
