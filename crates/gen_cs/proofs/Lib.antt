@@ -8,3 +8,4 @@ pub mod Counts
 mod Squares
 mod Found
 pub mod AcceptedFaces
+pub mod AcceptedNodes
