@@ -5,12 +5,14 @@ use Rattle.std.proofs.lemmas.List.{get_or-take, get_or_append_left, get_or_push}
 use Rattle.std.specs.List.{RotatedLeft}
 use Rattle.vec_exact.specs.declared.Vec3.{Vec3}
 use Rattle.vec_exact.specs.Vector.{inner}
+use Rattle.vec_exact.specs.Side.{sign_of}
 use Rattle.vec_exact.specs.Cycle.{after, shifted, corner}
 use Rattle.vec_exact.proofs.Cycles.{same_or_not, below_same_above, after_inner, after_last, after_below, shifted_early, shifted_late, shifted_below, shifted_corner}
 use Rattle.cone_laws.specs.Ring.{plane, listed, IsCycle}
 use Rattle.cone_laws.proofs.Turned.{planes_of, turned, same_cycle, same_corner}
 use Rattle.cone_laws.proofs.Appended.{appended, Splits}
-use Rattle.clip.specs.Usable.{side_at, AreSides}
+use Rattle.clip.proofs.SameSigns.{same_pos, same_neg, same_nonpos}
+use Rattle.clip.specs.Usable.{side_at, HaveSigns}
 
 -- r is l, turned to begin with place j
 pub record IsTurned (l r : List ℕ) (j : ℕ) : Type 0 where
@@ -55,7 +57,7 @@ last_is k t l =
 pub record Filled (ps : List Vec3) (m : ℕ) (l r : List ℕ) (s : List ℤ) (t q : ℕ) : Type 0 where
   pub some : 1 ≤ m
   pub cycle : IsCycle (plane ps) (m - 1) (length l) (slice_index l)
-  pub sides : AreSides ps l (plane ps m) s
+  pub sides : HaveSigns ps l (plane ps m) s
   pub place : t < length s
   pub not_positive : slice_index_or s t (pos 0) ≤ℤ pos 0
   pub positive : pos 0 <ℤ slice_index_or s (after (length s) t) (pos 0)
@@ -66,12 +68,12 @@ pub record Filled (ps : List Vec3) (m : ℕ) (l r : List ℕ) (s : List ℤ) (t 
   pub stop : q < length s → slice_index_or s (shifted (length s) (after (length s) t) q) (pos 0) ≤ℤ pos 0
 
 -- the side of a corner of the turned list
-turned_number : (ps : List Vec3) (n : Vec3) (l r : List ℕ) (s : List ℤ) (j u : ℕ) → AreSides ps l n s → IsTurned l r j → u < length l
-    → side_at ps r n u ≡ slice_index_or s (shifted (length s) j u) (pos 0)
+turned_number : (ps : List Vec3) (n : Vec3) (l r : List ℕ) (s : List ℤ) (j u : ℕ) → HaveSigns ps l n s → IsTurned l r j → u < length l
+    → sign_of (slice_index_or s (shifted (length s) j u) (pos 0)) ≡ sign_of (side_at ps r n u)
 turned_number ps n l r s j u a h lu =
-    turned_side ps n l r j u h lu
-    ∙ sym (a.each (shifted (length l) j u) (shifted_below (length l) j u h.within lu))
-    ∙ ap (λ (k : ℕ). slice_index_or s (shifted k j u) (pos 0)) (sym a.len)
+    ap (λ (k : ℕ). sign_of (slice_index_or s (shifted k j u) (pos 0))) a.len
+    ∙ a.each (shifted (length l) j u) (shifted_below (length l) j u h.within lu)
+    ∙ ap sign_of (sym (turned_side ps n l r j u h lu))
 
 both_signs : {z : ℤ} → pos 0 <ℤ z → z ≤ℤ pos 0 → ⊥
 both_signs {z} a b = omega (arith, ints)
@@ -105,20 +107,20 @@ filled_splits ps m l r s t q f e =
     let size : length s ≡ length r = f.sides.len ∙ sym f.is_turned.len in
     let first : after (length s) t ≤ length s = omega (arith, after_below (length s) t f.place) in
     let back = place_back (length s) (after (length s) t) f.negative.0 first f.negative.1 in
-    let side : (u : ℕ) → u < length s → side_at ps r (plane ps (suc (m - 1))) u ≡ slice_index_or s (shifted (length s) (after (length s) t) u) (pos 0) =
-    λ u lu. ap (λ (i : ℕ). side_at ps r (plane ps i) u) e ∙ turned_number ps (plane ps m) l r s (after (length s) t) u f.sides f.is_turned (omega (arith, f.sides.len)) in
+    let side : (u : ℕ) → u < length s → sign_of (slice_index_or s (shifted (length s) (after (length s) t) u) (pos 0)) ≡ sign_of (side_at ps r (plane ps (suc (m - 1))) u) =
+    λ u lu. turned_number ps (plane ps m) l r s (after (length s) t) u f.sides f.is_turned (omega (arith, f.sides.len)) ∙ ap (λ (i : ℕ). sign_of (side_at ps r (plane ps i) u)) (sym e) in
     record {
       cycle = turned_cycle (plane ps) (m - 1) l r (after (length s) t) f.is_turned f.cycle;
       some = filled_some ps m l r s t q f;
       room = omega (arith, room, size);
-      positive = λ u lu. subst (λ (z : ℤ). pos 0 <ℤ z) (sym (side u (omega (arith, room)))) (f.run u lu);
-      stop = subst (λ (z : ℤ). z ≤ℤ pos 0) (sym (side q room)) (f.stop room);
+      positive = λ u lu. same_pos _ _ (side u (omega (arith, room))) (f.run u lu);
+      stop = same_nonpos _ _ (side q room) (f.stop room);
       last = subst (λ (i : ℕ). side_at ps r (plane ps (suc (m - 1))) (i - 1) ≤ℤ pos 0) size
-          (subst (λ (z : ℤ). z ≤ℤ pos 0)
-          (sym (side (length s - 1) (omega (arith, f.place)) ∙ ap (λ (i : ℕ). slice_index_or s i (pos 0)) (last_is (length s) t f.place))) f.not_positive);
+          (same_nonpos (slice_index_or s t (pos 0)) _
+          (ap (λ (i : ℕ). sign_of (slice_index_or s i (pos 0))) (sym (last_is (length s) t f.place)) ∙ side (length s - 1) (omega (arith, f.place))) f.not_positive);
       place = back.0;
       place_below = omega (arith, back.1, size);
-      negative = subst (λ (z : ℤ). z <ℤ pos 0) (sym (side back.0 back.1 ∙ ap (λ (i : ℕ). slice_index_or s i (pos 0)) back.2)) f.negative.2;
+      negative = same_neg (slice_index_or s f.negative.0 (pos 0)) _ (ap (λ (i : ℕ). sign_of (slice_index_or s i (pos 0))) (sym back.2) ∙ side back.0 back.1) f.negative.2;
     }
 
 pub filled_cycle : (ps : List Vec3) (m : ℕ) (l r : List ℕ) (s : List ℤ) (t q : ℕ) → Filled ps m l r s t q

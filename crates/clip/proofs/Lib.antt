@@ -9,3 +9,10 @@ pub mod RingFacts
 pub mod PieceOrder
 pub mod Separated
 pub mod Parts
+pub mod NarrowSides
+pub mod Skipped
+pub mod OutlineFacts
+pub mod SameSigns
+pub mod Meeting
+pub mod CutFacts
+pub mod FormFacts

@@ -22,7 +22,7 @@ pub one_more_number : (i : ℕ) → range_with_len 1 i ++ (i + 1) ∷ [] ≡ ran
 one_more_number i = let e : suc i ≡ i + 1 = omega arith in subst (λ (j : ℕ). range_with_len 1 i ++ (i + 1) ∷ [] ≡ range_with_len 1 j) e (ap (λ (j : ℕ). range_with_len 1 i ++ j ∷ []) (omega arith) ∙ more_numbers 1 i)
 
 -- the planes by number
-edge_at : (f ps : List Vec3) (m : ℕ) → AreEdgesOf f ps m → (t : ℕ) → t < length f → plane ps (suc t) ≡ face_plane f t
+pub edge_at : (f ps : List Vec3) (m : ℕ) → AreEdgesOf f ps m → (t : ℕ) → t < length f → plane ps (suc t) ≡ face_plane f t
 edge_at f ps m a t l =
     ap (vector_at ps) (omega arith)
     ∙ sym (get_or-take m ps t zero_triple (omega (arith, a.size)))

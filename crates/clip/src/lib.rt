@@ -2,7 +2,12 @@
 #![tactic(auto)]
 
 mod columns;
+mod cuts;
+mod forms;
 mod lists;
+mod meetings;
+mod narrow;
+mod outlines;
 mod overlap;
 mod pairs;
 mod pieces;
@@ -13,9 +18,11 @@ mod sides;
 mod tests;
 
 pub use columns::{Columns, PieceList, Place};
+pub use forms::{CornerForm, corner_form};
 pub use lists::{PlaneList, Ring, corner};
+pub use outlines::{Outline, outline_of};
 pub use overlap::Overlap;
-pub use pairs::{clip, is_ring, planes};
+pub use pairs::{clip, clip_outlines, is_ring, planes};
 pub use pieces::{Corners, Piece, Pieces};
 pub use rings::{cut, start};
 pub use separation::are_kept_apart;

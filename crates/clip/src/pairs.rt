@@ -4,13 +4,14 @@ ghost use Rattle.vec_exact.specs.declared.Vec3.{Vec3 as Triple};
 ghost use Rattle.vec_exact.specs.Face.{IsAcceptedFace};
 ghost use Rattle.cone_laws.specs.Cone.{AllPositive};
 ghost use Rattle.cone_laws.specs.Inside.{IsInside, Meets};
-ghost use Rattle.cone_laws.specs.Ring.{face_planes, planes_of_pair, listed, IsRingOfFirst, IsRing};
+ghost use Rattle.cone_laws.specs.Ring.{face_planes, planes_of_pair, listed, IsRing};
 ghost use Rattle.mesh_check.specs.Mesh.{corners_of};
-ghost use Rattle.clip.specs.Planes.{HasInside, EachIs37, NoneIsZero, AreEdgesOf, IsFaceNumber};
+ghost use Rattle.clip.specs.Outlines.{nodes_of, IsOutline};
+ghost use Rattle.clip.specs.Planes.{EachIs37, NoneIsZero, IsFaceNumber};
 
+use crate::cuts::ring_of_outlines;
 use crate::lists::{PlaneList, Ring};
-use crate::rings::{cut, start};
-use crate::separation::are_kept_apart;
+use crate::outlines::{Outline, outline_of};
 use mesh_check::{Mesh, edge_count, plane};
 use std::sync::ledger::Ledger;
 use vec_exact::Steps;
@@ -45,24 +46,6 @@ pub fn planes(a: &Mesh, i: u32, b: &Mesh, j: u32) -> PlaneList
     planes
 }
 
-// The ring of all planes, of which the first m are the edge planes of an accepted face in order.
-fn ring_of(planes: &PlaneList, m: u8) -> Option<Ring>
-    requires edges { (face : List Triple) × AreEdgesOf face planes.now.items m }
-    requires size { EachIs37 planes.now.items (length planes.now.items) }
-    requires nonzero { NoneIsZero planes.now.items (length planes.now.items) }
-    ensures { MatchOption result (¬ HasInside planes.now.items (length planes.now.items))
-        (λ ring. IsRingOfFirst planes.now.items (length planes.now.items) ring.items) }
-{
-    let total = planes.len() as u8;
-    let mut ring = start(planes, m);
-    for i in m..total {
-        if !cut(planes, &mut ring, i + 1) {
-            return None;
-        }
-    }
-    Some(ring)
-}
-
 // The ring of two faces, where they meet.
 fn ring_of_pair(a: &Mesh, i: u32, b: &Mesh, j: u32) -> Option<Ring>
     requires source { IsFaceNumber a.now i }
@@ -72,11 +55,7 @@ fn ring_of_pair(a: &Mesh, i: u32, b: &Mesh, j: u32) -> Option<Ring>
     ensures source { IsAcceptedFace (corners_of a.now i) }
     ensures target { IsAcceptedFace (corners_of b.now j) }
 {
-    if are_kept_apart(a, i, b, j) {
-        return None;
-    }
-    let planes = planes(a, i, b, j);
-    ring_of(&planes, edge_count(a, i) as u8)
+    ring_of_outlines(&outline_of(a, i), &outline_of(b, j))
 }
 
 /// The ring of face `i` of `a` and face `j` of `b`, where a direction is inside both; faces count
@@ -97,8 +76,35 @@ pub fn clip<L: Ledger>(a: &Mesh, i: u32, b: &Mesh, j: u32, steps: &mut Steps<L>)
         ↔ (IsInside source d × IsInside target d)) }
     ensures tick { steps.new ≡ steps.old + 1 }
 {
+    clip_outlines(&outline_of(a, i), &outline_of(b, j), a, i, b, j, steps)
+}
+
+/// `clip` for two faces that were read before: `f` is face `i` of `a`, and `g` is face `j` of `b`.
+/// The meshes and the numbers stand in the contract alone.
+pub fn clip_outlines<L: Ledger>(
+    f: &Outline,
+    g: &Outline,
+    a: &Mesh,
+    i: u32,
+    b: &Mesh,
+    j: u32,
+    steps: &mut Steps<L>,
+) -> Option<Ring>
+    requires f { IsOutline f.now }
+    requires g { IsOutline g.now }
+    requires source { nodes_of f.now ≡ corners_of a.now i }
+    requires target { nodes_of g.now ≡ corners_of b.now j }
+    ensures meets { IsSome result ↔ Meets (corners_of a.now i) (corners_of b.now j) }
+    ensures ring { IfSome result (λ ring. IsRing (corners_of a.now i) (corners_of b.now j) ring.items) }
+    ensures bounds { let source = corners_of a.now i in
+        let target = corners_of b.now j in
+        IfSome result (λ ring. (d : Triple)
+        → (AllPositive (length ring.items) (listed (planes_of_pair source target) ring.items) d)
+        ↔ (IsInside source d × IsInside target d)) }
+    ensures tick { steps.new ≡ steps.old + 1 }
+{
     steps.tick();
-    ring_of_pair(a, i, b, j)
+    ring_of_outlines(f, g)
 }
 
 /// Whether `ring` is the ring of face `i` of `a` and face `j` of `b`; faces count from 1. A number

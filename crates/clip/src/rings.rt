@@ -5,7 +5,7 @@ ghost use Rattle.vec_exact.specs.declared.Vec3.{Vec3 as Triple};
 ghost use Rattle.vec_exact.specs.Cycle.{after};
 ghost use Rattle.cone_laws.specs.Ring.{plane, IsCycle, IsRingOfFirst};
 ghost use Rattle.clip.specs.Planes.{HasInside, EachIs37, NoneIsZero, AreEdgesOf};
-ghost use Rattle.clip.specs.Usable.{AreSides};
+ghost use Rattle.clip.specs.Usable.{HaveSigns};
 
 use crate::lists::{PlaneList, Ring, next_place, plane_at};
 use crate::sides::{has_negative, positive_run, rise, sides_of};
@@ -27,7 +27,7 @@ pub fn start(planes: &PlaneList, m: u8) -> Ring
 }
 
 // Turns the ring so that the number at place t, from 0, comes first.
-fn turn(ring: &mut Ring, t: usize)
+pub fn turn(ring: &mut Ring, t: usize)
     requires { t ≤ length ring.old.items }
     ensures by_index { RotatedLeft ring.old.items ring.new.items (length ring.old.items) t }
     ensures len { length ring.new.items ≡ length ring.old.items }
@@ -52,7 +52,7 @@ fn least_place(ring: &Ring) -> usize
 }
 
 // Turns the ring so that its least number comes first.
-fn begin_with_least(ring: &mut Ring)
+pub fn begin_with_least(ring: &mut Ring)
     requires { 0 < length ring.old.items }
     ensures least_first { (t : ℕ) → t < length ring.new.items → slice_index ring.new.items 0 ≤ slice_index ring.new.items t }
     ensures turned { (j : ℕ) × j < length ring.old.items × RotatedLeft ring.old.items ring.new.items (length ring.old.items) j }
@@ -64,10 +64,10 @@ fn begin_with_least(ring: &mut Ring)
 
 // Puts plane m into the gap that begins behind the run of positive corners after place t, in place
 // of the planes whose corners are no part of that run. `planes` stands in the contract alone.
-fn fill_gap(planes: &PlaneList, ring: &mut Ring, sides: &[i128], m: u8, t: usize)
+fn fill_gap(planes: &PlaneList, ring: &mut Ring, sides: &[i8], m: u8, t: usize)
     requires room { 1 ≤ m × m ≤ 32 }
     requires cycle { IsCycle (plane planes.now.items) (m - 1) (length ring.old.items) (slice_index ring.old.items) }
-    requires sides { AreSides planes.now.items ring.old.items (plane planes.now.items m) sides.now }
+    requires sides { HaveSigns planes.now.items ring.old.items (plane planes.now.items m) sides.now }
     requires place { t < length sides.now }
     requires not_positive { slice_index_or sides.now t (pos 0) ≤ℤ pos 0 }
     requires positive { pos 0 <ℤ slice_index_or sides.now (after (length sides.now) t) (pos 0) }

@@ -1,38 +1,52 @@
 // The sides of a ring's corners on one more plane.
 ghost use Rattle.std.specs.Prelude.{◌≡◌, ◌↔◌, ◌<◌, ◌≤◌, pos, ◌≤ℤ◌, ◌<ℤ◌, ℕ, length, slice_index_or, MatchOption, IsTrue};
+ghost use Rattle.vec_exact.specs.Side.{sign_of};
 ghost use Rattle.vec_exact.specs.Size.{Is37};
 ghost use Rattle.vec_exact.specs.Cycle.{after, shifted};
-ghost use Rattle.clip.specs.Usable.{IsUsable, AreSides};
+ghost use Rattle.clip.specs.Usable.{IsUsable, HaveSigns};
 
 use crate::lists::{PlaneList, Ring, corner_at, next_place};
 use arrayvec::ArrayVec;
 use vec_exact::{Vec3, dot};
 
-/// A number for each corner of a ring.
-pub type Sides = ArrayVec<i128, 32>;
+/// A sign for each corner of a ring: -1, 0 or 1.
+pub type Sides = ArrayVec<i8, 32>;
 
-// The inner products of `plane` and the corners of the ring.
+// The sign of a number, as a number.
+pub fn sign_number(x: i128) -> i8
+    ensures { sign_of result ≡ sign_of x }
+{
+    if x < 0 {
+        -1
+    } else if x > 0 {
+        1
+    } else {
+        0
+    }
+}
+
+// The signs of the inner products of `plane` and the corners of the ring.
 pub fn sides_of(planes: &PlaneList, ring: &Ring, plane: Vec3) -> Sides
     requires usable { IsUsable planes.now.items ring.now.items }
     requires size { Is37 plane }
-    ensures { AreSides planes.now.items ring.now.items plane result.items }
+    ensures { HaveSigns planes.now.items ring.now.items plane result.items }
 {
     let mut sides = Sides::new();
     for t in 0..ring.len() {
-        sides.push(dot(plane, corner_at(planes, ring, t)));
+        sides.push(sign_number(dot(plane, corner_at(planes, ring, t))));
     }
     sides
 }
 
 // Whether a corner is negative.
-pub fn has_negative(sides: &[i128]) -> bool
+pub fn has_negative(sides: &[i8]) -> bool
     ensures { IsTrue result ↔ ((t : ℕ) × t < length sides.now × slice_index_or sides.now t (pos 0) <ℤ pos 0) }
 {
     sides.iter().any(|side| *side < 0)
 }
 
 // A place whose corner is not positive while the next one is.
-pub fn rise(sides: &[i128]) -> Option<usize>
+pub fn rise(sides: &[i8]) -> Option<usize>
     ensures { let side = (λ (t : ℕ). slice_index_or sides.now t (pos 0)) in
         let next = after (length sides.now) in
         MatchOption result ((t : ℕ) → t < length sides.now → side t ≤ℤ pos 0 → side (next t) ≤ℤ pos 0)
@@ -50,7 +64,7 @@ pub fn rise(sides: &[i128]) -> Option<usize>
 }
 
 // How many corners are positive from place `first` on, cyclically.
-pub fn positive_run(sides: &[i128], first: usize) -> usize
+pub fn positive_run(sides: &[i8], first: usize) -> usize
     requires first { first < length sides.now }
     ensures within { result ≤ length sides.now }
     ensures positive { (u : ℕ) → u < result → pos 0 <ℤ slice_index_or sides.now (shifted (length sides.now) first u) (pos 0) }

@@ -1,5 +1,5 @@
 -- The corners of the ring of two faces.
-use Rattle.std.proofs.Common.{◌≡◌, ◌≢◌, ℕ, ◌+◌, ◌<◌, ℤ, pos, ◌<ℤ◌, List, [], ◌∷◌, ◌++◌, length, map, refl, ap, ap₂, sym, ◌∙◌, subst, arith}
+use Rattle.std.proofs.Common.{◌≡◌, ◌≢◌, ℕ, ◌+◌, ◌<◌, ℤ, pos, ◌*ℤ◌, ◌<ℤ◌, List, [], ◌∷◌, ◌++◌, length, map, refl, ap, ap₂, sym, ◌∙◌, subst, arith}
 use Rattle.std.specs.List.{range_with_len}
 use Rattle.std.proofs.lemmas.Int.{ints}
 use Rattle.std.proofs.Math.IntN.{*ℤ_comm}
@@ -7,7 +7,7 @@ use Rattle.std.proofs.lemmas.List.FromFn.{map-range_with_len_more, length-map-ra
 use borrow.Author.Differences.{product_is}
 use Rattle.vec_exact.specs.declared.RawMesh.{RawMesh}
 use Rattle.vec_exact.specs.declared.Vec3.{Vec3}
-use Rattle.vec_exact.specs.Vector.{zero_triple, inner}
+use Rattle.vec_exact.specs.Vector.{zero_triple, inner, scaled}
 use Rattle.vec_exact.specs.Cycle.{after, corner}
 use Rattle.vec_exact.specs.Face.{IsAcceptedFace}
 use Rattle.vec_exact.proofs.Cycles.{turn}
@@ -15,7 +15,11 @@ use Rattle.cone_laws.specs.Ring.{planes_of_pair, listed, IsRing}
 use Rattle.mesh_check.specs.Mesh.{corners_of}
 use Rattle.clip.specs.declared.pieces.Piece.{Piece}
 use Rattle.clip.specs.Planes.{IsFaceNumber}
-use Rattle.clip.proofs.RingFacts.{sound_piece}
+use Rattle.clip.proofs.RingFacts.{sound_piece, ring_greatest_size}
+use Rattle.clip.specs.declared.outlines.Outline.{Outline}
+use Rattle.clip.specs.Outlines.{nodes_of, AreNumbersOf}
+use Rattle.cone_laws.proofs.Pairs.{length-planes_of_pair}
+use Rattle.vec_exact.proofs.Terms.{vec_eq}
 use Rattle.piece_measure.specs.Grid.{grid_corner_of, grid_corners_of}
 use Rattle.overlap_run.specs.Parts.{IsPieceAt}
 
@@ -62,3 +66,18 @@ piece_at a b p ps e i j f g r c =
       right = record { ring = r; corners = corners };
       sound = sound_piece (length a.faces) (length b.faces) p (corners_of a p.a) (corners_of b p.b) f g i j r (ap (length {A = List ℤ}) corners ∙ length-grid_corners (length l) (listed planes l));
     }
+
+-- the numbers of a ring are those of planes of the two faces
+pub numbers_of_ring : (e h : Outline) (f g : List Vec3) (l : List ℕ) → nodes_of e ≡ f → nodes_of h ≡ g → IsAcceptedFace f → IsAcceptedFace g → IsRing f g l → AreNumbersOf e h l
+numbers_of_ring e h f g l p q a b r = record {
+  least = r.cycle.least_number;
+  greatest = λ t lt. omega (arith, r.cycle.greatest_number t lt, length-planes_of_pair f g, ap (length {A = Vec3}) p, ap (length {A = Vec3}) q);
+  few = ring_greatest_size f g l a b r;
+}
+
+-- where a positive multiple is not zero, neither is the triple
+pub factor_nonzero : (k : ℕ) (v c : Vec3) → c ≡ scaled (pos k) v → c ≢ zero_triple → v ≢ zero_triple
+factor_nonzero k v c e n z = n (e ∙ ap (scaled (pos k)) z ∙ vec_eq (scaled (pos k) zero_triple) zero_triple (none k) (none k) (none k))
+  where
+    none : (k : ℕ) → pos k *ℤ pos 0 ≡ pos 0
+    none k = omega (arith, ints)

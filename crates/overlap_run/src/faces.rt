@@ -4,13 +4,14 @@ ghost use Rattle.std.specs.List.Sorted.{IsStrictlyIncreasing};
 ghost use Rattle.cone_laws.specs.Inside.{Meets};
 ghost use Rattle.cone_laws.specs.Ring.{IsRing};
 ghost use Rattle.mesh_check.specs.Mesh.{corners_of};
+ghost use Rattle.clip.specs.Outlines.{nodes_of, IsOutline};
 ghost use Rattle.clip.specs.Planes.{IsFaceNumber};
 ghost use Rattle.overlap_run.specs.Parts.{AddsPiece, TakesPair, IsBlockOf, DoMeetWithin};
 
 use crate::Block;
 use crate::blocks::GREATEST_COUNT;
 use crate::rings::piece_of_ring;
-use clip::{PieceList, Ring, clip};
+use clip::{Outline, PieceList, Ring, clip_outlines, outline_of};
 use mesh_check::Mesh;
 use std::alloc::Global;
 use std::sync::ledger::Ledger;
@@ -22,13 +23,19 @@ fn add_piece<C: PieceList>(
     alloc: Global,
     a: &Mesh,
     i: u32,
+    f: &Outline,
     b: &Mesh,
     j: u32,
+    g: &Outline,
     ring: Ring,
     block: &mut Block<C>,
 ) -> Result<(), NoMemory>
     requires source { IsFaceNumber a.now i }
     requires target { IsFaceNumber b.now j }
+    requires f { IsOutline f.now }
+    requires g { IsOutline g.now }
+    requires f_nodes { nodes_of f.now ≡ corners_of a.now i }
+    requires g_nodes { nodes_of g.now ≡ corners_of b.now j }
     requires ring { IsRing (corners_of a.now i) (corners_of b.now j) ring.items }
     requires room { block.old.count + 1 < 2 ^ 64 }
     ensures { OnOk result (AddsPiece C.holds a.now b.now (record { source = i; target = j }) block.old block.new) }
@@ -38,7 +45,7 @@ fn add_piece<C: PieceList>(
         block.pieces = C::none(alloc);
         return Ok(());
     }
-    let piece = piece_of_ring(alloc, a, i, b, j, ring)?;
+    let piece = piece_of_ring(alloc, a, i, f, b, j, g, ring)?;
     block.pieces.push(piece)?;
     Ok(())
 }
@@ -48,6 +55,7 @@ fn clip_pair<C: PieceList, L: Ledger>(
     alloc: Global,
     a: &Mesh,
     i: u32,
+    f: &Outline,
     b: &Mesh,
     j: u32,
     block: &mut Block<C>,
@@ -55,15 +63,18 @@ fn clip_pair<C: PieceList, L: Ledger>(
 ) -> Result<(), NoMemory>
     requires source { IsFaceNumber a.now i }
     requires target { IsFaceNumber b.now j }
+    requires f { IsOutline f.now }
+    requires f_nodes { nodes_of f.now ≡ corners_of a.now i }
     requires room { block.old.count + 1 < 2 ^ 64 }
     ensures pair { OnOk result (TakesPair C.holds a.now b.now (record { source = i; target = j }) block.old block.new) }
     ensures few { OnOk result (block.new.count ≤ block.old.count + 1) }
     ensures tick { steps.new ≡ steps.old + 1 }
 {
-    let Some(ring) = clip(a, i, b, j, steps) else {
+    let g = outline_of(b, j);
+    let Some(ring) = clip_outlines(f, &g, a, i, b, j, steps) else {
         return Ok(());
     };
-    add_piece(alloc, a, i, b, j, ring, block)
+    add_piece(alloc, a, i, f, b, j, &g, ring, block)
 }
 
 // Clips face i of `a` with each of the targets, which are face numbers of `b` in ascending order.
@@ -89,8 +100,9 @@ pub fn clip_face<C: PieceList, L: Ledger>(
     ensures ticks { OnOk result (steps.new ≡ steps.old + length targets.now) }
     ensures most { steps.new ≤ steps.old + length targets.now }
 {
+    let f = outline_of(a, i);
     for j in targets {
-        clip_pair(alloc, a, i, b, *j, block, steps)?;
+        clip_pair(alloc, a, i, &f, b, *j, block, steps)?;
     }
     Ok(())
 }

@@ -1,7 +1,8 @@
 -- Corners brought to a fixed size. Source: our own.
-use Rattle.std.specs.Prelude.{ℕ, ℤ, pos, ◌*ℤ◌, unsigned_abs, max, List, [], ◌∷◌, map}
+use Rattle.std.specs.Prelude.{◌≡◌, ◌<◌, ℕ, ℤ, pos, ◌*ℤ◌, unsigned_abs, max, List, [], ◌∷◌, map}
 use Rattle.std.specs.List.{range_with_len}
 use Rattle.vec_exact.specs.declared.Vec3.{Vec3}
+use Rattle.vec_exact.specs.Vector.{scaled}
 use Rattle.vec_exact.specs.Size.{Within}
 use Rattle.vec_exact.specs.Face.{vector_of}
 use Rattle.vec_exact.specs.Cycle.{corner}
@@ -19,6 +20,10 @@ IsOnGrid numbers = Within 268435456 (vector_of numbers)
 unfoldable pub grid_corner_of : Vec3 → List ℤ
 grid_corner_of c = let on_grid = (λ (x : ℤ). rounded (x *ℤ pos 268435456) (component_size c)) in
     on_grid c.x ∷ on_grid c.y ∷ on_grid c.z ∷ []
+
+-- a positive multiple has the same corner on the grid
+abbrev pub SameForMultiples : Type 0
+SameForMultiples = (c : Vec3) (k : ℕ) → 0 < k → grid_corner_of (scaled (pos k) c) ≡ grid_corner_of c
 
 -- the grid corners of a cycle of k planes, in order
 unfoldable pub grid_corners_of : ℕ → (ℕ → Vec3) → List (List ℤ)

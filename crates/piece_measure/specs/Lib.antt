@@ -1,4 +1,5 @@
 pub mod Grid
+pub mod Scale
 pub mod Root
 pub mod Triangle
 pub mod Piece

@@ -8,6 +8,6 @@ mod piece;
 mod tests;
 mod triangle;
 
-pub use grid::grid_corner;
+pub use grid::{grid_corner, grid_node, law_same_for_multiples};
 pub use piece::{GREATEST_MEASURE, measure};
 pub use triangle::tri;

@@ -2,6 +2,7 @@
 ghost use Rattle.piece_measure.specs.Grid.{IsOnGrid};
 
 use super::*;
+use vec_exact::Vec3;
 
 // The measure of a piece of three corners.
 fn of_three(a: [i32; 3], b: [i32; 3], c: [i32; 3]) -> i64
@@ -34,4 +35,17 @@ fn octants(rt: HostRuntime) {
         sum = sum.wrapping_add(octant);
     }
     assert_eq!(rt; sum, 863_554_525_184);
+}
+
+#[test]
+fn corners_on_the_grid(rt: HostRuntime) {
+    let r = 1 << 28;
+    // 2^28 / 3 is 89,478,485 and a third.
+    let thirds = [r, -89_478_485, 178_956_971];
+    assert_eq!(rt; grid_node([3, -1, 2]), thirds);
+    let (x, y, z) = (3 << 70, -(1 << 70), 2 << 70);
+    assert_eq!(rt; grid_corner(Vec3 { x, y, z }), thirds);
+    // A half and one and a half go away from zero.
+    let (x, y, z) = (1 << 29, 1, -3);
+    assert_eq!(rt; grid_corner(Vec3 { x, y, z }), [r, 1, -2]);
 }

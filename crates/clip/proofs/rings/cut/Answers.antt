@@ -1,7 +1,7 @@
 use Rattle.std.proofs.Common.{◌≡◌, IsTrue, refl, ℕ, sym, subst, arith, List, Bool, true, false, ℤ}
 use Rattle.vec_exact.specs.declared.Vec3.{Vec3}
 use Rattle.cone_laws.specs.Ring.{plane, IsRingOfFirst}
-use Rattle.clip.specs.Usable.{AreSides}
+use Rattle.clip.specs.Usable.{HaveSigns}
 use Rattle.clip.proofs.Gap.{turned_cycle}
 use Rattle.clip.proofs.OneMore.{ring_inside, kept_ring, nothing_inside}
 use Rattle.clip.proofs.rings.cut.Goals as goal
@@ -13,8 +13,8 @@ untrue : IsTrue false → ⊥
 untrue e = cc
 
 -- the sides that the code looks at
-here : (ps : List Vec3) (m : ℕ) (l : List ℕ) (n : Vec3) (s r : List ℤ) → n ≡ plane ps m → r ≡ s → AreSides ps l n s → AreSides ps l (plane ps m) r
-here ps m l n s r e f a = subst (AreSides ps l (plane ps m)) (sym f) (subst (λ (q : Vec3). AreSides ps l q s) e a)
+here : (ps : List Vec3) (m : ℕ) (l : List ℕ) (n : Vec3) (s r : List ℤ) → n ≡ plane ps m → r ≡ s → HaveSigns ps l n s → HaveSigns ps l (plane ps m) r
+here ps m l n s r e f a = subst (HaveSigns ps l (plane ps m)) (sym f) (subst (λ (q : Vec3). HaveSigns ps l q s) e a)
 
 stays : (c : goal.Then-not-has_negative) → IsRingOfFirst c.args.planes.now.items c.args.m c.args.ring.now.items
 stays c =

@@ -1,0 +1,133 @@
+// A face with the planes of its edges, in 64 bits, and what it says of another one.
+ghost use Rattle.std.specs.Prelude.{◌≡◌, ◌<◌, ◌≤◌, length, MatchOption, IsTrue};
+ghost use Rattle.vec_exact.specs.Size.{Is18, Is37};
+ghost use Rattle.vec_exact.specs.Cycle.{vector_at, face_plane};
+ghost use Rattle.mesh_check.specs.Mesh.{corners_of};
+ghost use Rattle.cone_laws.specs.Ring.{face_planes};
+ghost use Rattle.clip.specs.Planes.{IsFaceNumber};
+ghost use Rattle.clip.specs.Apart.{KeepsOff};
+ghost use Rattle.clip.specs.Narrow.{wide, AreNodeSized};
+ghost use Rattle.clip.specs.Outlines.{wide_list, nodes_of, IsOutline, AreCuts};
+
+use crate::lists::next_place;
+use crate::narrow::{NarrowVec3, extent_on, narrow_cross, narrow_of};
+use arrayvec::ArrayVec;
+use mesh_check::{Mesh, edge_count, node};
+
+/// Up to 16 nodes, or planes.
+pub type NarrowList = ArrayVec<NarrowVec3, 16>;
+
+/// For each edge of a face, whether its plane has some node of another face on its negative side.
+pub type Cuts = ArrayVec<bool, 16>;
+
+/// A face: its nodes in order, and the planes of its edges in order.
+#[derive(Drop)]
+pub struct Outline {
+    pub nodes: NarrowList,
+    pub planes: NarrowList,
+}
+
+// The nodes of a face, in order.
+fn nodes_in(mesh: &Mesh, face: u32, count: u32) -> NarrowList
+    requires face { IsFaceNumber mesh.now face }
+    requires count { count ≡ length (corners_of mesh.now face) }
+    requires greatest { count ≤ 16 }
+    ensures { wide_list result.items ≡ corners_of mesh.now face }
+{
+    let mut nodes = NarrowList::new();
+    for t in 0..count {
+        nodes.push(narrow_of(node(mesh, face, t + 1)));
+    }
+    nodes
+}
+
+// The planes of the edges of a face, in order.
+fn planes_in(nodes: &[NarrowVec3]) -> NarrowList
+    requires greatest { length nodes.now ≤ 16 }
+    requires nodes { AreNodeSized nodes.now }
+    ensures { wide_list result.items ≡ face_planes (wide_list nodes.now) }
+{
+    let mut planes = NarrowList::new();
+    for t in 0..nodes.len() {
+        let following = next_place(nodes.len(), t);
+        planes.push(narrow_cross(nodes[t], nodes[following]));
+    }
+    planes
+}
+
+/// The face with this number, which counts from 1.
+pub fn outline_of(mesh: &Mesh, face: u32) -> Outline
+    requires { IsFaceNumber mesh.now face }
+    ensures nodes { nodes_of result ≡ corners_of mesh.now face }
+    ensures outline { IsOutline result }
+{
+    let nodes = nodes_in(mesh, face, edge_count(mesh, face));
+    let planes = planes_in(nodes.as_slice());
+    Outline { nodes, planes }
+}
+
+/// How many nodes the face has.
+pub fn count_of(face: &Outline) -> usize
+    requires { IsOutline face.now }
+    ensures count { result ≡ length (nodes_of face.now) }
+    ensures least { 3 ≤ result }
+    ensures greatest { result ≤ 16 }
+{
+    face.nodes.len()
+}
+
+/// Node t of the face, from 0.
+pub fn node_of(face: &Outline, t: usize) -> NarrowVec3
+    requires face { IsOutline face.now }
+    requires place { t < length (nodes_of face.now) }
+    ensures value { wide result ≡ vector_at (nodes_of face.now) t }
+    ensures size { Is18 (wide result) }
+{
+    face.nodes.as_slice()[t]
+}
+
+/// The plane of edge t of the face, from 0.
+pub fn plane_of(face: &Outline, t: usize) -> NarrowVec3
+    requires face { IsOutline face.now }
+    requires place { t < length (nodes_of face.now) }
+    ensures value { wide result ≡ face_plane (nodes_of face.now) t }
+    ensures size { Is37 (wide result) }
+{
+    face.planes.as_slice()[t]
+}
+
+// Whether some edge of `f` has no node of `g` on its positive side.
+pub fn outline_keeps_off(f: &Outline, g: &Outline) -> bool
+    requires f { IsOutline f.now }
+    requires g { IsOutline g.now }
+    ensures { IsTrue result → KeepsOff (nodes_of f.now) (nodes_of g.now) }
+{
+    let planes = f.planes.as_slice();
+    let nodes = g.nodes.as_slice();
+    for t in 0..planes.len() {
+        if extent_on(planes[t], nodes).greatest <= 0 {
+            return true;
+        }
+    }
+    false
+}
+
+// The edges of `g` that have some node of `f` on their negative side, and None where some edge of
+// `g` has none on its positive side.
+pub fn cuts_of(f: &Outline, g: &Outline) -> Option<Cuts>
+    requires f { IsOutline f.now }
+    requires g { IsOutline g.now }
+    ensures { MatchOption result (KeepsOff (nodes_of g.now) (nodes_of f.now)) (λ cuts. AreCuts (nodes_of f.now) (nodes_of g.now) cuts.items) }
+{
+    let planes = g.planes.as_slice();
+    let nodes = f.nodes.as_slice();
+    let mut cuts = Cuts::new();
+    for t in 0..planes.len() {
+        let extent = extent_on(planes[t], nodes);
+        if extent.greatest <= 0 {
+            return None;
+        }
+        cuts.push(extent.least < 0);
+    }
+    Some(cuts)
+}
