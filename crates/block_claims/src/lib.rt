@@ -7,4 +7,6 @@ mod tests;
 mod tickets;
 
 pub use rule::{Kind, View};
-pub use tickets::{ClaimWord, Ticket, claims, draw, is_done, last_word, rejoin, split};
+pub use tickets::{
+    ClaimWord, Ticket, claims, draw, is_done, last_word, last_word_of, rejoin, split,
+};

@@ -1,5 +1,5 @@
 // Draws by one ticket and by two, and that threads may share the word and take tickets along.
-use crate::{claims, draw, is_done, last_word, rejoin, split};
+use crate::{claims, draw, is_done, last_word, last_word_of, rejoin, split};
 use std::test::Fail;
 
 fn is_shared_by_threads<T: Sync>(_value: &T) {}
@@ -47,7 +47,7 @@ fn two_tickets(rt: HostRuntime) -> Result<(), Fail> {
     assert_eq!(rt; answer, None);
     rejoin(&word, &mut first, further);
     assert!(rt; is_done(&first));
-    assert_eq!(rt; last_word(word), 5);
+    assert_eq!(rt; last_word_of(word, first), 5);
     Ok(())
 }
 

@@ -141,3 +141,19 @@ pub fn last_word(claims: ClaimWord) -> u64
     closed.free();
     word
 }
+
+/// The word at the end, beside a ticket of these claims. With the views of all tickets ever made,
+/// of which the view of this ticket is one, it meets the rule. So where the first ticket is done and
+/// has taken all others back, the word is above the number of blocks, by no more than the number of
+/// tickets that were made. It takes no memory.
+pub fn last_word_of(claims: ClaimWord, ticket: Ticket) -> u64
+    requires { IsTicketOf claims ticket }
+    ensures { (views : List Viewed) × IsClaimed claims.blocks result views × Contains views ticket.view }
+{
+    let ClaimWord { table, blocks: _ } = claims;
+    let Ticket { seat, done: _ } = ticket;
+    let closed = table.close_with(seat);
+    let last = closed.word(0);
+    closed.free();
+    last
+}

@@ -3,10 +3,11 @@ pub mod PanelForms
 pub mod Places
 pub mod BoxCells
 pub mod FaceNodes
-pub mod Roots
 pub mod Fair
 pub mod Sharing
 pub mod Agree
 pub mod Fillings
 pub mod Searches
 pub mod FirstBoxes
+pub mod Ascending
+pub mod CandidateLists

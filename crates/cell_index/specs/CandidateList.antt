@@ -1,6 +1,6 @@
 -- The candidates of a face as a list. Source: our own.
-use Rattle.std.specs.Prelude.{ℕ, ℤ, int_le, Bool, false, ◌&&◌, ◌||◌, List, length, None, Some, Option}
-use Rattle.std.specs.List.{filter, range_with_len}
+use Rattle.std.specs.Prelude.{◌↔◌, ℕ, ℤ, int_le, Bool, false, ◌&&◌, ◌||◌, List, length, None, Some, Option}
+use Rattle.std.specs.List.{Contains, filter, range_with_len}
 use Rattle.vec_exact.specs.declared.Vec3.{Vec3}
 use Rattle.vec_exact.specs.declared.RawMesh.{RawMesh}
 use Rattle.vec_exact.specs.declared.panels.Panel.{Panel}
@@ -8,6 +8,7 @@ use Rattle.vec_exact.specs.declared.panels.Panel.TheVariants.{PlusX, PlusY, Minu
 use Rattle.mesh_check.specs.Mesh.{corners_of}
 use Rattle.cell_index.specs.declared.CellBox.{CellBox}
 use Rattle.cell_index.specs.Box.{box_of}
+use Rattle.cell_index.specs.Candidate.{AreCandidates}
 use Rattle.cell_index.specs.Fineness.{fineness_of}
 
 -- there are both boxes, and they share a cell: `SharesCell` as a test
@@ -32,3 +33,7 @@ are_candidates f g k =
 -- the candidates of face i of the mesh a among the faces of the mesh b, ascending
 unfoldable pub candidates_of : RawMesh → ℕ → RawMesh → List ℕ
 candidates_of a i b = filter (λ j. are_candidates (corners_of a i) (corners_of b j) (fineness_of (length b.faces))) (range_with_len 1 (length b.faces))
+
+-- the list of candidates has exactly the faces that are candidates
+abbrev pub LawCandidatesOf : Type 0
+LawCandidatesOf = (a : RawMesh) (i : ℕ) (b : RawMesh) (j : ℕ) → Contains (candidates_of a i b) j ↔ AreCandidates a i b j

@@ -1,5 +1,6 @@
 -- An index as contracts see it: a fineness and the boxes of all target faces. Source: our own.
 use Rattle.std.specs.Prelude.{◌≡◌, ◌↔◌, ℕ, ◌-◌, ◌<◌, ◌≤◌, ℤ, None, List, [], length, slice_index_or, Option}
+use Rattle.std.specs.List.{Contains}
 use Rattle.vec_exact.specs.declared.RawMesh.{RawMesh}
 use Rattle.mesh_check.specs.Mesh.{corners_of}
 use Rattle.cell_index.specs.declared.CellBox.{CellBox}
@@ -40,6 +41,10 @@ pub record IsSharer (own : List (Option CellBox)) (bs : List Boxes) (j : ℕ) : 
   pub first : 1 ≤ j
   pub last : j ≤ length bs
   pub shares : Share own (panels bs j)
+
+-- the list has exactly those that share a cell with a face that has these boxes
+abbrev pub HasSharers : List (Option CellBox) → List Boxes → List ℕ → Type 0
+HasSharers own bs found = (j : ℕ) → Contains found j ↔ IsSharer own bs j
 
 -- in the index of a mesh, those that share a cell with a face's boxes are its candidates
 abbrev pub LawSharersAreCandidates : Type 0

@@ -1,5 +1,6 @@
 // What candidates are for.
 ghost use Rattle.cell_index.specs.Candidate.{LawMeetsIsCandidate};
+ghost use Rattle.cell_index.specs.CandidateList.{LawCandidatesOf};
 ghost use Rattle.cell_index.specs.IndexOf.{LawSharersAreCandidates};
 
 /// Two accepted faces that meet are candidates, at any fineness.
@@ -10,4 +11,9 @@ pub fn law_meets_is_candidate()
 /// In the index of a mesh, the faces that share a cell with a face's boxes are its candidates.
 pub fn law_sharers_are_candidates()
     ensures { LawSharersAreCandidates }
+{}
+
+/// The list of the candidates of a face has exactly the faces that are candidates.
+pub fn law_candidates_of()
+    ensures { LawCandidatesOf }
 {}

@@ -8,11 +8,12 @@ ghost use Rattle.clip.specs.Planes.{HasInside};
 ghost use Rattle.clip.specs.Usable.{HaveSigns};
 ghost use Rattle.clip.specs.Outlines.{nodes_of, IsOutline, AreCuts};
 
-use crate::lists::{Ring, next_place};
+use crate::lists::Ring;
 use crate::meetings::signs_on;
 use crate::outlines::{Outline, count_of, cuts_of, outline_keeps_off, plane_of};
 use crate::rings::{begin_with_least, turn};
 use crate::sides::{has_negative, positive_run, rise};
+use vec_exact::next_place;
 
 // The ring of the edges of `f`: the numbers from 1 on. `g` stands in the contract alone.
 fn start_outline(f: &Outline, g: &Outline) -> Ring

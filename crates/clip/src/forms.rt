@@ -9,10 +9,10 @@ ghost use Rattle.clip.specs.Narrow.{wide};
 ghost use Rattle.clip.specs.Outlines.{nodes_of, IsOutline, AreNumbersOf};
 ghost use Rattle.clip.specs.Forms.{IsFormOf};
 
-use crate::lists::{Ring, next_place};
+use crate::lists::Ring;
 use crate::narrow::{NarrowVec3, widened};
 use crate::outlines::{Outline, count_of, node_of, plane_of};
-use vec_exact::{Vec3, cross};
+use vec_exact::{Vec3, cross, next_place};
 
 /// A corner of a ring.
 #[derive(Clone, Copy)]

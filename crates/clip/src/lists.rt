@@ -7,7 +7,7 @@ ghost use Rattle.clip.specs.Planes.{EachIs37, AreNumbers};
 ghost use Rattle.clip.specs.Usable.{IsUsable};
 
 use arrayvec::ArrayVec;
-use vec_exact::{Vec3, cross};
+use vec_exact::{Vec3, cross, next_place};
 
 /// The edge planes of two faces, at most 32. Their numbers count from 1.
 pub type PlaneList = ArrayVec<Vec3, 32>;
@@ -22,16 +22,6 @@ pub fn plane_at(planes: &PlaneList, i: u8) -> Vec3
     ensures { result ≡ plane planes.now.items i }
 {
     planes.as_slice()[i as usize - 1]
-}
-
-// The place after t in a cycle of `count` places, from 0.
-#[tactic(auto, using(vec_exact::proofs::Cycles::after_inner, vec_exact::proofs::Cycles::after_last))]
-pub fn next_place(count: usize, t: usize) -> usize
-    requires { t < count }
-    ensures value { result ≡ after count t }
-    ensures below { result < count }
-{
-    if t + 1 == count { 0 } else { t + 1 }
 }
 
 // The corner at place t, from 0.

@@ -9,11 +9,11 @@ ghost use Rattle.clip.specs.Narrow.{wide};
 ghost use Rattle.clip.specs.Usable.{HaveSigns};
 ghost use Rattle.clip.specs.Outlines.{nodes_of, IsOutline, AreNumbersOf};
 
-use crate::lists::{Ring, next_place};
+use crate::lists::Ring;
 use crate::narrow::{NarrowVec3, narrow_dot, widened};
 use crate::outlines::{Outline, count_of, node_of, plane_of};
 use crate::sides::{Sides, sign_number};
-use vec_exact::{cross, dot};
+use vec_exact::{cross, dot, next_place};
 
 // A number with the sign of the inner product of `w` and the corner where the edges t and s of a
 // face meet. Neighbouring edges meet in a node.

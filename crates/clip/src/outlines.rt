@@ -9,10 +9,10 @@ ghost use Rattle.clip.specs.Apart.{KeepsOff};
 ghost use Rattle.clip.specs.Narrow.{wide, AreNodeSized};
 ghost use Rattle.clip.specs.Outlines.{wide_list, nodes_of, IsOutline, AreCuts};
 
-use crate::lists::next_place;
 use crate::narrow::{NarrowVec3, extent_on, narrow_cross, narrow_of};
 use arrayvec::ArrayVec;
 use mesh_check::{Mesh, edge_count, node};
+use vec_exact::next_place;
 
 /// Up to 16 nodes, or planes.
 pub type NarrowList = ArrayVec<NarrowVec3, 16>;

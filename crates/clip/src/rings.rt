@@ -7,8 +7,9 @@ ghost use Rattle.cone_laws.specs.Ring.{plane, IsCycle, IsRingOfFirst};
 ghost use Rattle.clip.specs.Planes.{HasInside, EachIs37, NoneIsZero, AreEdgesOf};
 ghost use Rattle.clip.specs.Usable.{HaveSigns};
 
-use crate::lists::{PlaneList, Ring, next_place, plane_at};
+use crate::lists::{PlaneList, Ring, plane_at};
 use crate::sides::{has_negative, positive_run, rise, sides_of};
+use vec_exact::next_place;
 
 /// The ring of the first m planes, which are the edge planes of an accepted face in order: the
 /// numbers from 1 to m.

@@ -5,9 +5,9 @@ ghost use Rattle.vec_exact.specs.Size.{Is37};
 ghost use Rattle.vec_exact.specs.Cycle.{after, shifted};
 ghost use Rattle.clip.specs.Usable.{IsUsable, HaveSigns};
 
-use crate::lists::{PlaneList, Ring, corner_at, next_place};
+use crate::lists::{PlaneList, Ring, corner_at};
 use arrayvec::ArrayVec;
-use vec_exact::{Vec3, dot};
+use vec_exact::{Vec3, dot, next_place};
 
 /// A sign for each corner of a ring: -1, 0 or 1.
 pub type Sides = ArrayVec<i8, 32>;

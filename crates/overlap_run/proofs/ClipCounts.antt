@@ -5,7 +5,7 @@ use Rattle.std.proofs.lemmas.List.Sums.{sum_by-append, sum_by-cons}
 use Rattle.std.proofs.lemmas.List.FromFn.{length-range_with_len}
 use Rattle.vec_exact.specs.declared.RawMesh.{RawMesh}
 use Rattle.overlap_run.specs.Parts.{targets_of, clip_count}
-use Rattle.overlap_run.proofs.Targets.{targets_at_most}
+use Rattle.cell_index.proofs.CandidateLists.{candidates_at_most}
 
 -- two ranges, one after the other
 range_append : (a m n k : ℕ) → k ≡ a + m → range_with_len a (m + n) ≡ range_with_len a m ++ range_with_len k n
@@ -52,7 +52,7 @@ pub clip_count_at_most : (a b : RawMesh) (first last : ℕ) → clip_count a b f
 unfolding clip_count
 clip_count_at_most a b first last =
     let tried : ℕ → ℕ = λ (i : ℕ). length (targets_of a b i) in
-    let most = sum_at_most tried (length b.faces) (targets_at_most a b) (range_with_len first (last + 1 - first)) in
+    let most = sum_at_most tried (length b.faces) (candidates_at_most a b) (range_with_len first (last + 1 - first)) in
     subst (λ (n : ℕ). sum_by tried (range_with_len first (last + 1 - first)) ≤ n * length b.faces) (length-range_with_len first (last + 1 - first)) most
 
 pub clip_count_more : (a b : RawMesh) (first i : ℕ) → 1 ≤ first → first ≤ i → clip_count a b first i ≡ clip_count a b first (i - 1) + length (targets_of a b i)

@@ -9,7 +9,7 @@ use Rattle.clip.specs.Overlaps.{IsSoundPiece}
 use Rattle.overlap_run.specs.Pairs.{FacePair, IsEarlier, AreExactly, IsCountOf}
 use Rattle.overlap_run.specs.Whole.{pair_of, IsPieceOf}
 use Rattle.overlap_run.specs.Parts.{ArePiecesOf, IsPieceAt}
-use Rattle.overlap_run.proofs.Ascending.{pairs_append, member_here}
+use Rattle.cell_index.proofs.Ascending.{pairs_append, member_here}
 
 -- every pair with P comes before every pair with Q
 abbrev pub AllBefore : (FacePair → Type 0) → (FacePair → Type 0) → Type 0

@@ -1,4 +1,3 @@
-mod Ascending
 pub mod Unique
 mod Exactly
 mod BlockSteps
@@ -6,7 +5,6 @@ mod FaceSteps
 mod RunSteps
 mod WholeSteps
 mod RingCorners
-mod Targets
 mod ClipCounts
 mod NumberedBlocks
 mod Stretches

@@ -10,7 +10,7 @@ use Rattle.clip.specs.declared.pieces.Piece.{Piece}
 use Rattle.piece_measure.specs.Grid.{grid_corners_of}
 use Rattle.overlap_run.specs.Pairs.{FacePair, IsEarlier, AreExactly, OneListOfPairs}
 use Rattle.overlap_run.specs.Whole.{pair_of, IsPieceOf, OneOverlap}
-use Rattle.overlap_run.proofs.Ascending.{same_members}
+use Rattle.cell_index.proofs.Ascending.{same_members}
 
 pub earlier_one_way : (p q : FacePair) → IsEarlier p q → IsEarlier q p → ⊥
 earlier_one_way p q (inl x) (inl y) = omega (arith, x, y)

@@ -2,7 +2,7 @@
 use Rattle.std.proofs.Common.{ℕ, ◌+◌, ◌*◌, ◌/◌, ◌<◌, ◌≤◌, arith}
 use Rattle.std.proofs.lemmas.Nat.{le-div, mul-le}
 use Rattle.piece_measure.specs.Triangle.{unit, third, fifth}
-use Rattle.piece_measure.proofs.Roots.{at_most_root}
+use Rattle.vec_exact.proofs.Roots.{at_most_root}
 
 -- a halved tangent is at most half of the tangent
 pub halved_at_most : (t r : ℕ) → unit * unit + t * t < (r + 1) * (r + 1) → 2 * (t * unit / (unit + r)) ≤ t

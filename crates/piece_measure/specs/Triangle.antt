@@ -6,7 +6,7 @@ use Rattle.std.specs.Int.{int_max}
 use Rattle.vec_exact.specs.declared.Vec3.{Vec3}
 use Rattle.vec_exact.specs.Vector.{inner, det}
 use Rattle.vec_exact.specs.Face.{vector_of}
-use Rattle.piece_measure.specs.Root.{root_of}
+use Rattle.vec_exact.specs.Root.{root_of}
 
 -- one in fixed point, 2^36
 abbrev pub unit : ℕ

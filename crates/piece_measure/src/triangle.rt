@@ -85,7 +85,7 @@ fn half_tangent(a: Vec3, b: Vec3, c: Vec3) -> u128
 }
 
 // The tangent of half the angle whose tangent is `t`.
-#[tactic(auto, unfolding(crate::specs::Triangle::halved), using(crate::proofs::Roots::root_unique, crate::proofs::Series::halved_at_most))]
+#[tactic(auto, unfolding(crate::specs::Triangle::halved), using(vec_exact::proofs::Roots::root_unique, crate::proofs::Series::halved_at_most))]
 fn halved(t: u128) -> u128
     requires { t ≤ 2 ^ 38 }
     ensures value { result ≡ halved t }

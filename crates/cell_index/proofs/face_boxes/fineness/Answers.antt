@@ -1,7 +1,7 @@
 use Rattle.std.proofs.Common.{◌≡◌, ◌/◌, arith, ap, ◌∙◌, ℕ, min, max}
 use Rattle.std.proofs.lemmas.Int.{ints}
-use Rattle.cell_index.specs.Fineness.{root_of}
-use Rattle.cell_index.proofs.Roots.{root_unique}
+use Rattle.vec_exact.specs.Root.{root_of}
+use Rattle.vec_exact.proofs.Roots.{root_unique}
 use Rattle.cell_index.proofs.face_boxes.fineness.Goals as goal
 
 pub returns-clause-value : goal.returns-clause-value

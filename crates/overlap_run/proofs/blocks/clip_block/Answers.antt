@@ -4,7 +4,7 @@ use Rattle.overlap_run.specs.Parts.{IsBlockOf, DoMeetWithin, clip_count}
 use Rattle.overlap_run.proofs.BlockSteps.{block_none}
 use Rattle.overlap_run.proofs.RunSteps.{no_faces}
 use Rattle.overlap_run.proofs.ClipCounts.{clip_count_none, clip_count_more, clip_count_grows, clip_count_fits}
-use Rattle.overlap_run.proofs.Targets.{targets_are_faces, targets_at_most, found_targets}
+use Rattle.cell_index.proofs.CandidateLists.{candidates_are_faces, candidates_at_most}
 use Rattle.overlap_run.proofs.blocks.clip_block.Goals as goal
 
 pub loop-i-init : goal.loop-i-init
@@ -31,8 +31,8 @@ clip_face-requires-clause-targets g c =
     let a = c.args.a.now in
     let b = c.args.b.now in
     let found = c.find_candidates.new.found.items in
-    subst (All (IsFaceNumber b)) (sym (c.deref.ensures.value ∙ found_targets a b c.loop-i.i found c.in_ok-find_candidates.ensures.ascending (c.in_ok-find_candidates.ensures.candidates b c.requires.index)))
-    (targets_are_faces a b c.loop-i.i)
+    subst (All (IsFaceNumber b)) (sym (c.deref.ensures.value ∙ c.in_ok-find_candidates.ensures.candidates b c.requires.index))
+    (candidates_are_faces a b c.loop-i.i)
 
 pub clip_face-requires-clause-all : goal.clip_face-requires-clause-all
 clip_face-requires-clause-all g c j face meets =
@@ -45,13 +45,13 @@ clip_face-requires-clause-room g c =
     let b = c.args.b.now in
     let source = c.face_count-source_faces.ensures.accepted.counts.face_limit in
     let target = c.face_count-target_faces.ensures.accepted.counts.face_limit in
-    let tried = ap (length {A = ℕ}) (c.deref.ensures.value ∙ found_targets c.args.a.now c.args.b.now c.loop-i.i c.find_candidates.new.found.items c.in_ok-find_candidates.ensures.ascending (c.in_ok-find_candidates.ensures.candidates c.args.b.now c.requires.index)) in
+    let tried = ap (length {A = ℕ}) (c.deref.ensures.value ∙ c.in_ok-find_candidates.ensures.candidates c.args.b.now c.requires.index) in
     omega (
       arith,
       c.loop-i.invariant.few,
       clip_count_fits a b c.args.from (c.loop-i.i - 1) c.requires.from.0 (omega (arith, c.loop-i-test.true, c.requires.to)) source target,
       tried,
-      targets_at_most a b c.loop-i.i,
+      candidates_at_most a b c.loop-i.i,
       target,
     )
 
@@ -63,7 +63,7 @@ returns-in_err-clip_face-clause-most g c =
       arith,
       c.loop-i.invariant.ticks,
       c.clip_face.ensures.most,
-      ap (length {A = ℕ}) (c.deref.ensures.value ∙ found_targets c.args.a.now c.args.b.now c.loop-i.i c.find_candidates.new.found.items c.in_ok-find_candidates.ensures.ascending (c.in_ok-find_candidates.ensures.candidates c.args.b.now c.requires.index)),
+      ap (length {A = ℕ}) (c.deref.ensures.value ∙ c.in_ok-find_candidates.ensures.candidates c.args.b.now c.requires.index),
       clip_count_more a b c.args.from c.loop-i.i c.requires.from.0 c.loop-i.auto.i,
       clip_count_grows a b c.args.from c.loop-i.i c.args.to (omega (arith, c.loop-i.auto.i)) (omega (arith, c.loop-i-test.true)),
     )
@@ -74,7 +74,7 @@ loop-i-preserved g c =
     let b = c.args.b.now in
     let back : c.loop-i.i + 1 - 1 ≡ c.loop-i.i = omega arith in
     let same = ap (clip_count a b c.args.from) back in
-    let tried = ap (length {A = ℕ}) (c.deref.ensures.value ∙ found_targets c.args.a.now c.args.b.now c.loop-i.i c.find_candidates.new.found.items c.in_ok-find_candidates.ensures.ascending (c.in_ok-find_candidates.ensures.candidates c.args.b.now c.requires.index)) in
+    let tried = ap (length {A = ℕ}) (c.deref.ensures.value ∙ c.in_ok-find_candidates.ensures.candidates c.args.b.now c.requires.index) in
     let more = clip_count_more a b c.args.from c.loop-i.i c.requires.from.0 c.loop-i.auto.i in
     record {
       block = subst (λ (n : ℕ). IsBlockOf g.C.PieceList.holds a b (DoMeetWithin a b c.args.from n) c.clip_face.new.block) (sym back)

@@ -1,6 +1,6 @@
 use Rattle.std.proofs.Common.{All, ◌∙◌, sym, subst}
 use Rattle.clip.specs.Planes.{IsFaceNumber}
-use Rattle.overlap_run.proofs.Targets.{targets_are_faces, found_targets}
+use Rattle.cell_index.proofs.CandidateLists.{candidates_are_faces}
 use Rattle.overlap_run.proofs.counting.count_face.Goals as goal
 
 pub count_possible-requires-clause-targets : goal.count_possible-requires-clause-targets
@@ -8,5 +8,5 @@ count_possible-requires-clause-targets c =
     let a = c.args.a.now in
     let b = c.args.b.now in
     let found = c.find_candidates.new.found.items in
-    subst (All (IsFaceNumber b)) (sym (c.deref.ensures.value ∙ found_targets a b c.args.i found c.in_ok-find_candidates.ensures.ascending (c.in_ok-find_candidates.ensures.candidates b c.requires.index)))
-    (targets_are_faces a b c.args.i)
+    subst (All (IsFaceNumber b)) (sym (c.deref.ensures.value ∙ c.in_ok-find_candidates.ensures.candidates b c.requires.index))
+    (candidates_are_faces a b c.args.i)

@@ -3,8 +3,8 @@ use Rattle.std.proofs.lemmas.Int.{ints, to_z-of_z}
 use mir.Syntax.{w128}
 use Rattle.vec_exact.specs.Vector.{inner}
 use Rattle.piece_measure.specs.Triangle.{whole_length}
-use Rattle.piece_measure.specs.Root.{root_of}
-use Rattle.piece_measure.proofs.Roots.{root_unique_signed, root_below}
+use Rattle.vec_exact.specs.Root.{root_of}
+use Rattle.vec_exact.proofs.Roots.{root_unique_signed, root_below}
 use Rattle.piece_measure.proofs.Sizes.{inner_small}
 use Rattle.piece_measure.proofs.triangle.whole_length.Goals as goal
 

@@ -1,4 +1,4 @@
--- The candidates of a face, as a list and as they are found.
+-- The list of the candidates of a face, and the candidates as they are found.
 use Rattle.std.proofs.Common.{◌≡◌, ℕ, suc, ◌+◌, ◌-◌, ◌<◌, ◌≤◌, ◌⊎◌, inl, inr, ◌↔◌, Bool, true, false, cond, ◌||◌, ℤ, List, [], ◌∷◌, length, refl, sym, ◌∙◌, subst, ap, arith, Option, Some, None}
 use Rattle.std.specs.List.{All, AllPairs, Contains, filter, range_with_len}
 use Rattle.std.specs.List.Sorted.{IsStrictlyIncreasing}
@@ -10,14 +10,12 @@ use Rattle.vec_exact.specs.declared.RawMesh.{RawMesh}
 use Rattle.vec_exact.specs.declared.panels.Panel.{Panel}
 use Rattle.vec_exact.specs.declared.panels.Panel.TheVariants.{PlusX, PlusY, MinusX, MinusY, PlusZ, MinusZ}
 use Rattle.mesh_check.specs.Mesh.{corners_of}
-use Rattle.clip.specs.Planes.{IsFaceNumber}
 use Rattle.cell_index.specs.declared.CellBox.{CellBox}
 use Rattle.cell_index.specs.Candidate.{SharesCell, IsCandidate, AreCandidates, HasCandidates}
-use Rattle.cell_index.specs.CandidateList.{do_share_cell, do_share_on, are_candidates, candidates_of}
+use Rattle.cell_index.specs.CandidateList.{do_share_cell, do_share_on, are_candidates, candidates_of, LawCandidatesOf}
 use Rattle.cell_index.specs.Fineness.{fineness_of}
 use Rattle.cell_index.proofs.Sharing.{ranges_decide}
-use Rattle.overlap_run.specs.Parts.{targets_of}
-use Rattle.overlap_run.proofs.Ascending.{same_members, member_here, member_there, member_cases}
+use Rattle.cell_index.proofs.Ascending.{same_members, member_here, member_there, member_cases}
 
 -- ---- the test of candidates
 cell_decides : (x y : Option CellBox) → do_share_cell x y ≡ true ↔ SharesCell x y
@@ -106,6 +104,11 @@ filter_member p (x ∷ xs) y c h =
     ])
 
 -- ---- the faces of a mesh, by number
+
+-- j is the number of a face of the mesh
+abbrev pub IsFaceOf : RawMesh → ℕ → Type 0
+IsFaceOf b j = (1 ≤ j) × (j ≤ length b.faces)
+
 module _ (b : RawMesh) where
   abbrev faces : List ℕ
   faces = range_with_len 1 (length b.faces)
@@ -124,10 +127,10 @@ module _ (b : RawMesh) where
       let here : j - 1 < n = omega (arith, lo, hi) in
       (j - 1, omega (arith, here, length-range_with_len 1 n), get_or-range_with_len 1 n (j - 1) j here ∙ omega (arith, lo))
 
-  all_faces : All (IsFaceNumber b) faces
+  all_faces : All (IsFaceOf b) faces
   all_faces =
       let n = length b.faces in
-      All-from_get_or (IsFaceNumber b) faces 0 (λ k l.
+      All-from_get_or (IsFaceOf b) faces 0 (λ k l.
       let here = get_or-range_with_len 1 n k 0 (omega (arith, l, length-range_with_len 1 n)) in
       (omega (arith, here), omega (arith, here, l, length-range_with_len 1 n)))
 
@@ -136,29 +139,29 @@ module _ (a b : RawMesh) where
   abbrev test : ℕ → ℕ → Bool
   test i j = are_candidates (corners_of a i) (corners_of b j) (fineness_of (length b.faces))
 
-  pub targets_at_most : (i : ℕ) → length (targets_of a b i) ≤ length b.faces
+  pub candidates_at_most : (i : ℕ) → length (candidates_of a i b) ≤ length b.faces
   unfolding candidates_of
-  targets_at_most i = omega (arith, filter_at_most (test i) (faces b), length-range_with_len 1 (length b.faces))
+  candidates_at_most i = omega (arith, filter_at_most (test i) (faces b), length-range_with_len 1 (length b.faces))
 
-  pub targets_ascend : (i : ℕ) → IsStrictlyIncreasing (targets_of a b i)
+  pub candidates_ascend : (i : ℕ) → IsStrictlyIncreasing (candidates_of a i b)
   unfolding candidates_of
-  targets_ascend i = IsStrictlyIncreasing-filter (test i) (faces b) (faces_ascend b)
+  candidates_ascend i = IsStrictlyIncreasing-filter (test i) (faces b) (faces_ascend b)
 
-  pub targets_are_faces : (i : ℕ) → All (IsFaceNumber b) (targets_of a b i)
+  pub candidates_are_faces : (i : ℕ) → All (IsFaceOf b) (candidates_of a i b)
   unfolding candidates_of
-  targets_are_faces i = All-filter (test i) (IsFaceNumber b) (faces b) (all_faces b)
+  candidates_are_faces i = All-filter (test i) (IsFaceOf b) (faces b) (all_faces b)
 
-  target_from_candidate : (i j : ℕ) → AreCandidates a i b j → Contains (targets_of a b i) j
+  listed_from_candidate : (i j : ℕ) → AreCandidates a i b j → Contains (candidates_of a i b) j
   unfolding candidates_of
-  target_from_candidate i j c = filter_member (test i) (faces b) j (face_listed b j c.first c.last) (test_from_candidate _ _ _ c.share)
+  listed_from_candidate i j c = filter_member (test i) (faces b) j (face_listed b j c.first c.last) (test_from_candidate _ _ _ c.share)
 
-  passes : (i : ℕ) → All (λ j. test i j ≡ true) (targets_of a b i)
+  passes : (i : ℕ) → All (λ j. test i j ≡ true) (candidates_of a i b)
   unfolding candidates_of
   passes i = filter_passes (test i) (faces b)
 
-  candidate_from_target : (i j : ℕ) → Contains (targets_of a b i) j → AreCandidates a i b j
-  candidate_from_target i j c =
-      let face : IsFaceNumber b j = subst (IsFaceNumber b) c.2 (targets_are_faces i c.0 j c.1) in
+  candidate_from_listed : (i j : ℕ) → Contains (candidates_of a i b) j → AreCandidates a i b j
+  candidate_from_listed i j c =
+      let face : IsFaceOf b j = subst (IsFaceOf b) c.2 (candidates_are_faces i c.0 j c.1) in
       let good : test i j ≡ true = subst (λ (x : ℕ). test i x ≡ true) c.2 (passes i c.0 j c.1) in
       record { first = face.0; last = face.1; share = candidate_from_test _ _ _ good }
 
@@ -169,7 +172,11 @@ module _ (a b : RawMesh) where
   below l h = AllPairs-from_increasing l h
 
   -- the ascending list of exactly the candidates is their list
-  pub found_targets : (i : ℕ) (found : List ℕ) → IsStrictlyIncreasing found → HasCandidates a i b found → found ≡ targets_of a b i
-  found_targets i found h has =
-      same_members (λ x y. x < y) one_way found (targets_of a b i) (below found h) (below (targets_of a b i) (targets_ascend i))
-      (λ j c. target_from_candidate i j ((has j).0 c)) (λ j c. (has j).1 (candidate_from_target i j c))
+  pub found_candidates : (i : ℕ) (found : List ℕ) → IsStrictlyIncreasing found → HasCandidates a i b found → found ≡ candidates_of a i b
+  found_candidates i found h has =
+      same_members (λ x y. x < y) one_way found (candidates_of a i b) (below found h) (below (candidates_of a i b) (candidates_ascend i))
+      (λ j c. listed_from_candidate i j ((has j).0 c)) (λ j c. (has j).1 (candidate_from_listed i j c))
+
+-- the list has exactly the candidates
+pub candidates_listed : LawCandidatesOf
+candidates_listed a i b j = (candidate_from_listed a b i j, listed_from_candidate a b i j)
