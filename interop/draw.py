@@ -17,10 +17,13 @@ def outline(nodes):
 
 
 def outlines(nodes, corners):
-    """The outline of each face."""
+    """The outline of each face; a face of short arcs has its nodes for that."""
     nodes, progress = unit(np.asarray(nodes, dtype=float)), Progress("outlines", len(corners))
-    for row in corners:
-        yield outline(nodes[row[np.concatenate([[True], row[1:] != row[:-1]])]])
+    faces = nodes[corners]
+    chords = np.linalg.norm(faces - np.roll(faces, -1, axis=1), axis=2)
+    sizes = 1 + np.count_nonzero(corners[:, 1:] != corners[:, :-1], axis=1)  # the rest is padding
+    for face, size, short in zip(faces, sizes, np.all(chords < ARC, axis=1)):
+        yield face[:size] if short else outline(face[:size])
         progress.step()
 
 
