@@ -18,7 +18,9 @@ def rows_and_columns(mesh):
     row, step = latitude.mean(axis=1), 360.0 / width
     middle = longitude[np.argmin(np.abs(row))]
     # the columns are taken as even: their first longitude is that which fits all of them best
-    first = middle[0] + np.mean((middle - middle[0] - np.arange(width) * step + 180.0) % 360.0 - 180.0)
+    first = middle[0] + np.mean(
+        (middle - middle[0] - np.arange(width) * step + 180.0) % 360.0 - 180.0
+    )
     column = first + np.arange(width) * step
     east = (longitude - column + 180.0) % 360.0 - 180.0
     steps = np.diff(row)

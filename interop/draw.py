@@ -34,7 +34,9 @@ class Globe:
 
     def __init__(self, longitude, latitude):
         east, north = np.radians([longitude, latitude])
-        ahead = np.array([np.cos(north) * np.cos(east), np.cos(north) * np.sin(east), np.sin(north)])
+        ahead = np.array(
+            [np.cos(north) * np.cos(east), np.cos(north) * np.sin(east), np.sin(north)]
+        )
         right = np.array([-np.sin(east), np.cos(east), 0.0])
         self.axes = np.stack([right, np.cross(ahead, right), ahead])
 
@@ -68,10 +70,14 @@ class Chart:
         east = longitude[0] + np.concatenate([[0.0], np.cumsum(steps)])
         if round_pole:
             north = np.sign(latitude.sum()) * 90.0
-            east, latitude = np.append(east, [east[-1], east[0]]), np.append(latitude, [latitude[0], north, north])
+            east, latitude = np.append(east, [east[-1], east[0]]), np.append(
+                latitude, [latitude[0], north, north]
+            )
         else:
             east = east[:-1]
-        shifts = range(int(np.floor((east.min() + 180) / 360)), int(np.floor((east.max() + 180) / 360)) + 1)
+        shifts = range(
+            int(np.floor((east.min() + 180) / 360)), int(np.floor((east.max() + 180) / 360)) + 1
+        )
         return [np.stack([east - 360.0 * shift, latitude], axis=1) for shift in shifts]
 
 

@@ -9,7 +9,9 @@ GREATEST = 2**31 - 2
 
 def scaling(values, scale=None, offset=None):
     """The scale and the offset by which finite `values` fill the 32 bits, unless they are given."""
-    least, greatest = (float(np.min(values)), float(np.max(values))) if np.size(values) else (0.0, 0.0)
+    least, greatest = (
+        (float(np.min(values)), float(np.max(values))) if np.size(values) else (0.0, 0.0)
+    )
     if offset is None:
         offset = 0.0 if scale is not None else least / 2 + greatest / 2
     if scale is None:
@@ -23,7 +25,9 @@ def pack(values, scale, offset):
     there = np.isfinite(values)
     whole = np.rint((np.where(there, values, offset) - offset) / scale)
     if np.size(whole) and np.abs(whole).max() > GREATEST:
-        raise Fault(f"a value is out of the 32 bits at the scale {scale:g} and the offset {offset:g}")
+        raise Fault(
+            f"a value is out of the 32 bits at the scale {scale:g} and the offset {offset:g}"
+        )
     return np.where(there, whole, FILL).astype(np.int32)
 
 

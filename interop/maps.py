@@ -32,7 +32,8 @@ def read_map(path):
     """The map in the file at `path`."""
     with open_file(path) as file:
         col, row, measure, area_a, area_b = (
-            np.asarray(values(file, name)).astype(np.int64) for name in ("col", "row", "S", "area_a", "area_b")
+            np.asarray(values(file, name)).astype(np.int64)
+            for name in ("col", "row", "S", "area_a", "area_b")
         )
     found = Map(col - 1, row - 1, measure, area_a, area_b)
     for numbers, areas in ((found.source, area_a), (found.target, area_b)):
@@ -43,7 +44,10 @@ def read_map(path):
 
 def check_counts(path, found, source, target):
     """Stops where a map isn't one between two meshes by its counts."""
-    for name, count, mesh in (("source", len(found.area_a), source), ("target", len(found.area_b), target)):
+    for name, count, mesh in (
+        ("source", len(found.area_a), source),
+        ("target", len(found.area_b), target),
+    ):
         if mesh is not None and count != len(mesh):
             raise Fault(f"{path}: {count} {name} faces, and the {name} mesh has {len(mesh)}")
 
@@ -65,8 +69,14 @@ def read_overlap(path):
         if "pieces" not in file.ncattrs():
             raise Fault(f"{path}: missing pieces")
         if file.getncattr("pieces") == 0:
-            return Overlap(*(np.zeros(0, dtype=np.int64),) * 2, np.zeros((0, 3)), np.zeros((0, 1), dtype=np.int64))
-        source, target, sizes = (values(file, name).astype(np.int64) for name in ("source", "target", "ring_size"))
+            return Overlap(
+                *(np.zeros(0, dtype=np.int64),) * 2,
+                np.zeros((0, 3)),
+                np.zeros((0, 1), dtype=np.int64),
+            )
+        source, target, sizes = (
+            values(file, name).astype(np.int64) for name in ("source", "target", "ring_size")
+        )
         corners = values(file, "corner")
     if sizes.min() < 1 or sizes.sum() != len(corners):
         raise Fault(f"{path}: rings and corners don't agree")

@@ -56,7 +56,9 @@ def _padded(corners, sizes):
 def joined(blocks_of_rows):
     """Rows of several blocks as one array, each padded with its last number."""
     width = max(rows.shape[1] for rows in blocks_of_rows)
-    wide = [np.pad(rows, ((0, 0), (0, width - rows.shape[1])), mode="edge") for rows in blocks_of_rows]
+    wide = [
+        np.pad(rows, ((0, 0), (0, width - rows.shape[1])), mode="edge") for rows in blocks_of_rows
+    ]
     return np.concatenate(wide)
 
 
@@ -80,11 +82,19 @@ def read_mesh(path):
     with open_file(path) as file:
         nodes = coordinates(file)
         if nodes.dtype.str[1:] not in WHOLE_TYPES:
-            raise Fault(f"{path}: coordinates aren't whole numbers of 32 bits (interop/mesh_in makes them)")
-        corners, sizes = compact(joined([rows for _, rows in connect_blocks(file)]).astype(np.int64) - 1)
+            raise Fault(
+                f"{path}: coordinates aren't whole numbers of 32 bits (interop/mesh_in makes them)"
+            )
+        corners, sizes = compact(
+            joined([rows for _, rows in connect_blocks(file)]).astype(np.int64) - 1
+        )
         if corners.min(initial=0) < 0 or corners.max(initial=0) >= len(nodes):
             raise Fault(f"{path}: a face names a node that isn't there")
-        grid = tuple(int(n) for n in values(file, "grid_dims")) if "grid_dims" in file.variables else None
+        grid = (
+            tuple(int(n) for n in values(file, "grid_dims"))
+            if "grid_dims" in file.variables
+            else None
+        )
     return Mesh(nodes.astype(np.int64), corners, sizes, grid)
 
 

@@ -57,7 +57,9 @@ def _exodus(file):
     rows = [_rectangle(file, number, rows) for number, rows in connect_blocks(file)]
     source = Source(unit(nodes), _checked(file, _filled(joined(rows)), len(nodes)), "exodus")
     curved = sum(
-        int(np.count_nonzero(values(file, name))) for name in file.variables if name.startswith("edge_type")
+        int(np.count_nonzero(values(file, name)))
+        for name in file.variables
+        if name.startswith("edge_type")
     )
     if curved:
         source.notes.append(f"{curved} edges along parallels are taken as great circles")
@@ -107,7 +109,9 @@ def _radians(file, name):
 def _check_finite(file, points, width):
     wrong = np.flatnonzero(~np.all(np.isfinite(points), axis=1))
     if len(wrong):
-        raise Fault(f"{file.filepath()}: face {wrong[0] // width + 1} has a corner without coordinates")
+        raise Fault(
+            f"{file.filepath()}: face {wrong[0] // width + 1} has a corner without coordinates"
+        )
 
 
 # UGRID meshes
@@ -127,12 +131,16 @@ def _ugrid(file, wanted):
     if not names or (wanted and wanted not in names):
         raise Fault(f"{file.filepath()}: no mesh topology {wanted or 'of faces'}")
     if len(names) > 1 and not wanted:
-        raise Fault(f"{file.filepath()}: several meshes, choose one by --topology: {' '.join(names)}")
+        raise Fault(
+            f"{file.filepath()}: several meshes, choose one by --topology: {' '.join(names)}"
+        )
     topology = file.variables[wanted or names[0]]
     longitude, latitude = _node_coordinates(file, topology)
     points = direction(longitude, latitude)
     _check_finite(file, points, 1)
-    return Source(points, _checked(file, _filled(_connectivity(file, topology)), len(points)), "ugrid")
+    return Source(
+        points, _checked(file, _filled(_connectivity(file, topology)), len(points)), "ugrid"
+    )
 
 
 def _node_coordinates(file, topology):

@@ -31,14 +31,20 @@ class Tools:
 
     def _run(self, words, status=0):
         done = subprocess.run(words, cwd=self.folder, capture_output=True, text=True)
-        assert done.returncode == status, f"{shlex.join(map(str, words))}: {done.returncode}\n{done.stderr}"
+        assert (
+            done.returncode == status
+        ), f"{shlex.join(map(str, words))}: {done.returncode}\n{done.stderr}"
         return done
 
     def tempest(self, *words):
         """The text of the program at these words; the test is skipped where it lacks the command."""
-        done = subprocess.run([PROGRAM, *map(str, words)], cwd=self.folder, capture_output=True, text=True)
+        done = subprocess.run(
+            [PROGRAM, *map(str, words)], cwd=self.folder, capture_output=True, text=True
+        )
         if done.returncode == 2 and words[0] not in ALWAYS_THERE:
-            pytest.skip(f"the program doesn't have {words[0]} {'--masked ' if '--masked' in words else ''}yet")
+            pytest.skip(
+                f"the program doesn't have {words[0]} {'--masked ' if '--masked' in words else ''}yet"
+            )
         assert done.returncode == 0, f"{words[0]}: {done.returncode} {done.stderr}"
         return done.stdout.strip()
 
@@ -47,7 +53,9 @@ class Tools:
 
     def refused(self, name, *words):
         """The one line of a program of interop that refuses its input."""
-        return self._run([sys.executable, TOP / "interop" / name, *map(str, words)], status=1).stderr
+        return self._run(
+            [sys.executable, TOP / "interop" / name, *map(str, words)], status=1
+        ).stderr
 
     def other(self, name, *words):
         if shutil.which(name) is None:
@@ -58,7 +66,15 @@ class Tools:
         """The overlap and the map of two meshes, as ab.g and map.nc."""
         self.tempest("GenerateOverlapMesh", "--a", source, "--b", target, "--out", "ab.g")
         return self.tempest(
-            "GenerateOfflineMap", "--in_mesh", source, "--out_mesh", target, "--ov_mesh", "ab.g", "--out_map", "map.nc"
+            "GenerateOfflineMap",
+            "--in_mesh",
+            source,
+            "--out_mesh",
+            target,
+            "--ov_mesh",
+            "ab.g",
+            "--out_map",
+            "map.nc",
         )
 
 
@@ -78,7 +94,11 @@ def cube_and_ring(tools):
 def floating_exodus(path, nodes, blocks, edge_type=None):
     """An Exodus mesh with floating-point coordinates, as the usual tool writes it; rows from 1."""
     with netCDF4.Dataset(path, "w", format="NETCDF3_64BIT_OFFSET") as file:
-        for name, length in (("num_dim", 3), ("num_nodes", len(nodes)), ("num_el_blk", len(blocks))):
+        for name, length in (
+            ("num_dim", 3),
+            ("num_nodes", len(nodes)),
+            ("num_el_blk", len(blocks)),
+        ):
             file.createDimension(name, length)
         file.createDimension("num_elem", sum(map(len, blocks)))
         for number, rows in enumerate(blocks, 1):

@@ -34,9 +34,31 @@ def test_whole_chain(tools, make):
     said = tools.map_of("a.g", "b.g")
     assert said.endswith(f"sources {len(mesh.read_mesh(tools.path('a.g')))} targets 2592")
     tools.interop("sample_field", "a.g", "f.nc", "--field", "harmonic2", "--var", "x")
-    words = tools.tempest("ApplyOfflineMap", "--map", "map.nc", "--var", "x", "--in_data", "f.nc", "--out_data", "o.nc").split()
+    words = tools.tempest(
+        "ApplyOfflineMap",
+        "--map",
+        "map.nc",
+        "--var",
+        "x",
+        "--in_data",
+        "f.nc",
+        "--out_data",
+        "o.nc",
+    ).split()
     assert words[3] == words[5]  # the mass of the source is the mass of the target
-    tools.interop("field_out", "o.nc", "r.nc", "--var", "x", "--map", "map.nc", "--mesh", "b.g", "--like", "f.nc")
+    tools.interop(
+        "field_out",
+        "o.nc",
+        "r.nc",
+        "--var",
+        "x",
+        "--map",
+        "map.nc",
+        "--mesh",
+        "b.g",
+        "--like",
+        "f.nc",
+    )
     target = mesh.read_mesh(tools.path("b.g"))
     true = sphere.face_averages(target.nodes, target.corners, analytic.smooth_harmonic)
     carried = values(tools.path("r.nc"), "x").ravel()

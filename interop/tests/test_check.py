@@ -4,8 +4,16 @@ import pytest
 
 def table(text):
     """The rows of the Markdown tables, by their first cell."""
-    rows = [[cell.strip() for cell in line.strip("| ").split("|")] for line in text.splitlines() if line.startswith("|")]
-    return {row[0]: [float(cell) for cell in row[1:]] for row in rows if row[1][0] in "-0123456789" and "---" not in row[1]}
+    rows = [
+        [cell.strip() for cell in line.strip("| ").split("|")]
+        for line in text.splitlines()
+        if line.startswith("|")
+    ]
+    return {
+        row[0]: [float(cell) for cell in row[1:]]
+        for row in rows
+        if row[1][0] in "-0123456789" and "---" not in row[1]
+    }
 
 
 def test_a_mesh_over_itself_changes_nothing(tools):
@@ -26,11 +34,24 @@ def test_norms_fall_with_the_width_of_the_source(tools):
         tools.map_of("a.g", "b.g")
         found.append(table(tools.interop("check", "a.g", "b.g", "ab.g", "map.nc")))
     for rows in found:
-        assert rows["consistency: greatest distance of a target's weights from the sum 1"][0] < 1e-15
-        assert rows["conservation: greatest part of a source's area (the map's) that is lost or added"][0] < 1e-15
-        assert rows["weights: greatest distance from piece area / target area, in double precision"][0] < 1e-5
+        assert (
+            rows["consistency: greatest distance of a target's weights from the sum 1"][0] < 1e-15
+        )
+        assert (
+            rows[
+                "conservation: greatest part of a source's area (the map's) that is lost or added"
+            ][0]
+            < 1e-15
+        )
+        assert (
+            rows["weights: greatest distance from piece area / target area, in double precision"][0]
+            < 1e-5
+        )
         # no new extremes: the least value doesn't fall, the greatest doesn't rise
-        assert all(rows[field][3] >= -1e-12 and rows[field][4] <= 1e-12 for field in ("smooth harmonic", "steep harmonic"))
+        assert all(
+            rows[field][3] >= -1e-12 and rows[field][4] <= 1e-12
+            for field in ("smooth harmonic", "steep harmonic")
+        )
     for field in ("smooth harmonic", "steep harmonic", "vortex"):
         assert found[1][field][1] < 0.8 * found[0][field][1]
 

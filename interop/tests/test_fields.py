@@ -37,7 +37,9 @@ def real_field(path, count, missing=()):
         time.units, time.calendar = "days since 2000-01-01", "standard"
         time[:] = [0.0, 31.0]
         field = file.createVariable("tas", "f4", ("time", "cell"), fill_value=1e20)
-        field.setncatts({"units": "K", "standard_name": "air_temperature", "long_name": "air temperature"})
+        field.setncatts(
+            {"units": "K", "standard_name": "air_temperature", "long_name": "air temperature"}
+        )
         given[:, list(missing)] = np.nan
         field[:] = np.ma.masked_invalid(given)
     return values(path, "tas")
@@ -49,9 +51,30 @@ def test_a_field_with_records_goes_through(cube_and_ring):
     said = tools.interop("field_in", "tas.nc", "packed.nc", "--var", "tas", "--mesh", "a.g")
     assert said.endswith("missing 0")
     tools.map_of("a.g", "b.g")
-    tools.tempest("ApplyOfflineMap", "--map", "map.nc", "--var", "tas", "--in_data", "packed.nc", "--out_data", "out.nc")
-    tools.interop("field_out", "out.nc", "real.nc", "--var", "tas", "--map", "map.nc", "--mesh", "b.g",
-                  "--like", "packed.nc")
+    tools.tempest(
+        "ApplyOfflineMap",
+        "--map",
+        "map.nc",
+        "--var",
+        "tas",
+        "--in_data",
+        "packed.nc",
+        "--out_data",
+        "out.nc",
+    )
+    tools.interop(
+        "field_out",
+        "out.nc",
+        "real.nc",
+        "--var",
+        "tas",
+        "--map",
+        "map.nc",
+        "--mesh",
+        "b.g",
+        "--like",
+        "packed.nc",
+    )
     found = maps.read_map(tools.path("map.nc"))
     wanted = np.stack([found.apply(record) for record in given])
     assert values(tools.path("real.nc"), "tas").reshape(2, -1) == pytest.approx(wanted, abs=1e-7)
@@ -59,8 +82,13 @@ def test_a_field_with_records_goes_through(cube_and_ring):
         field = file["tas"]
         assert field.dimensions == ("time", "lat", "lon") and field.units == "K"
         assert field.standard_name == "air_temperature"
-        assert file["time"].units == "days since 2000-01-01" and file["time"][:].tolist() == [0.0, 31.0]
-        assert file["lat"].units == "degrees_north" and file["lat"][0] == pytest.approx(-85.0, abs=1e-3)
+        assert file["time"].units == "days since 2000-01-01" and file["time"][:].tolist() == [
+            0.0,
+            31.0,
+        ]
+        assert file["lat"].units == "degrees_north" and file["lat"][0] == pytest.approx(
+            -85.0, abs=1e-3
+        )
         assert np.asarray(file["lon"][:]) == pytest.approx(np.arange(36) * 10.0 + 5.0, abs=1e-3)
 
 
@@ -68,8 +96,30 @@ def test_other_tools_read_the_field(cube_and_ring):
     tools = cube_and_ring
     tools.interop("sample_field", "a.g", "f.nc", "--field", "vortex")
     tools.map_of("a.g", "b.g")
-    tools.tempest("ApplyOfflineMap", "--map", "map.nc", "--var", "psi", "--in_data", "f.nc", "--out_data", "o.nc")
-    tools.interop("field_out", "o.nc", "r.nc", "--var", "psi", "--map", "map.nc", "--mesh", "b.g", "--like", "f.nc")
+    tools.tempest(
+        "ApplyOfflineMap",
+        "--map",
+        "map.nc",
+        "--var",
+        "psi",
+        "--in_data",
+        "f.nc",
+        "--out_data",
+        "o.nc",
+    )
+    tools.interop(
+        "field_out",
+        "o.nc",
+        "r.nc",
+        "--var",
+        "psi",
+        "--map",
+        "map.nc",
+        "--mesh",
+        "b.g",
+        "--like",
+        "f.nc",
+    )
     shown = tools.other("cdo", "-s", "sinfov", "r.nc")
     assert "lonlat" in shown and "points=648 (36x18)" in shown
     assert "points=600  nvertex=4" in tools.other("cdo", "-s", "sinfov", "f.nc")
@@ -85,11 +135,36 @@ def test_masked_values_stay_out(cube_and_ring):
     given = real_field(tools.path("tas.nc"), 600, missing)
     assert tools.interop("field_in", "tas.nc", "p.nc", "--var", "tas").endswith("missing 600")
     tools.map_of("a.g", "b.g")
-    tools.tempest("ApplyOfflineMap", "--masked", "--map", "map.nc", "--var", "tas", "--in_data", "p.nc", "--out_data", "o.nc")
-    tools.interop("field_out", "o.nc", "r.nc", "--var", "tas", "--map", "map.nc", "--mesh", "b.g", "--like", "p.nc")
+    tools.tempest(
+        "ApplyOfflineMap",
+        "--masked",
+        "--map",
+        "map.nc",
+        "--var",
+        "tas",
+        "--in_data",
+        "p.nc",
+        "--out_data",
+        "o.nc",
+    )
+    tools.interop(
+        "field_out",
+        "o.nc",
+        "r.nc",
+        "--var",
+        "tas",
+        "--map",
+        "map.nc",
+        "--mesh",
+        "b.g",
+        "--like",
+        "p.nc",
+    )
     found, there = maps.read_map(tools.path("map.nc")), np.isfinite(given[0])
     part = np.bincount(found.target, found.measure * there[found.source], 648)
-    sums = np.bincount(found.target, found.measure * np.where(there, given[0], 0.0)[found.source], 648)
+    sums = np.bincount(
+        found.target, found.measure * np.where(there, given[0], 0.0)[found.source], 648
+    )
     with np.errstate(invalid="ignore"):
         wanted = sums / part
     result = values(tools.path("r.nc"), "tas")[0].ravel()
@@ -112,4 +187,6 @@ def test_a_field_of_another_length_is_refused(cube_and_ring):
     real_field(cube_and_ring.path("tas.nc"), 599)
     said = cube_and_ring.refused("field_in", "tas.nc", "p.nc", "--var", "tas", "--mesh", "a.g")
     assert said == "field_in: tas.nc: tas is 2 x 599, and the mesh has 600 faces\n"
-    assert "missing nothing" in cube_and_ring.refused("field_in", "tas.nc", "p.nc", "--var", "nothing")
+    assert "missing nothing" in cube_and_ring.refused(
+        "field_in", "tas.nc", "p.nc", "--var", "nothing"
+    )

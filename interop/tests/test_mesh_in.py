@@ -73,9 +73,19 @@ def ugrid(path, nodes, rows, start, fill, turned=False):
         file.createDimension("face", len(rows))
         file.createDimension("corner", rows.shape[1])
         topology = file.createVariable("mesh2d", "i4", ())
-        topology.setncatts({"cf_role": "mesh_topology", "topology_dimension": 2, "node_coordinates": "nlon nlat",
-                            "face_node_connectivity": "fn", "face_dimension": "face"})
-        for name, numbers, units in (("nlon", longitude, "degrees_east"), ("nlat", latitude, "degrees_north")):
+        topology.setncatts(
+            {
+                "cf_role": "mesh_topology",
+                "topology_dimension": 2,
+                "node_coordinates": "nlon nlat",
+                "face_node_connectivity": "fn",
+                "face_dimension": "face",
+            }
+        )
+        for name, numbers, units in (
+            ("nlon", longitude, "degrees_east"),
+            ("nlat", latitude, "degrees_north"),
+        ):
             variable = file.createVariable(name, "f8", ("node",))
             variable.units = units
             variable[:] = numbers
@@ -85,7 +95,9 @@ def ugrid(path, nodes, rows, start, fill, turned=False):
         connect[:] = rows.T if turned else rows
 
 
-@pytest.mark.parametrize("start, fill, turned", [(0, -1, False), (1, 99999, False), (1, -999, True)])
+@pytest.mark.parametrize(
+    "start, fill, turned", [(0, -1, False), (1, 99999, False), (1, -999, True)]
+)
 def test_ugrid_of_pentagons_and_hexagons(tools, start, fill, turned):
     tools.tempest("GenerateICOMesh", "--res", 4, "--dual", "--file", "whole.g")
     faces, nodes = unit_nodes(tools.path("whole.g"))
@@ -100,7 +112,9 @@ def test_coarse_grid_moves_nodes_further(tools):
     tools.tempest("GenerateRLLMesh", "--lon", 12, "--lat", 6, "--file", "whole.g")
     faces, nodes = unit_nodes(tools.path("whole.g"))
     floating_exodus(tools.path("in.g"), nodes, [faces.corners + 1])
-    moved = float(tools.interop("mesh_in", "in.g", "out.g", "--grid", 100).splitlines()[0].split()[-2])
+    moved = float(
+        tools.interop("mesh_in", "in.g", "out.g", "--grid", 100).splitlines()[0].split()[-2]
+    )
     assert 10_000 < moved < 60_000
     assert np.abs(mesh.read_mesh(tools.path("out.g")).nodes).max() == 100
 
@@ -114,12 +128,14 @@ def ring(count, height=0.9):
 def test_faces_that_the_program_refuses_are_named(tools):
     nodes = np.concatenate([ring(17), ring(5, 0.5), [[0.0, 0.0, 1.0]]])
     good = [18, 19, 20]
-    rows = np.array([
-        list(range(1, 18)),             # 17 nodes
-        good + [20] * 14,
-        [18, 19, 18] + [18] * 14,       # two nodes
-        [18, 19, 20, 21, 23] + [23] * 12,  # bent inward at the pole
-    ])
+    rows = np.array(
+        [
+            list(range(1, 18)),  # 17 nodes
+            good + [20] * 14,
+            [18, 19, 18] + [18] * 14,  # two nodes
+            [18, 19, 20, 21, 23] + [23] * 12,  # bent inward at the pole
+        ]
+    )
     floating_exodus(tools.path("in.g"), nodes, [rows])
     said = tools.refused("mesh_in", "in.g", "out.g")
     assert "1 faces with more than 16 nodes: 1\n" in said
@@ -131,13 +147,24 @@ def test_faces_that_the_program_refuses_are_named(tools):
 def test_a_concave_face_is_named(tools):
     nodes = np.array([[1.0, 0, 0], [1, 1, 0], [0, 1, 0], [1, 1, 1.0]])
     floating_exodus(tools.path("in.g"), nodes, [[[1, 2, 3, 4]]])
-    assert "1 faces not strictly convex after rounding: 1" in tools.refused("mesh_in", "in.g", "out.g")
+    assert "1 faces not strictly convex after rounding: 1" in tools.refused(
+        "mesh_in", "in.g", "out.g"
+    )
 
 
-@pytest.mark.parametrize("wrong, text", [
-    (dict(nodes=[[0, 0, 0.0], [1, 0, 0], [0, 1, 0]], blocks=[[[1, 2, 3]]]), "node 1 has no direction"),
-    (dict(nodes=[[0, 0, 1.0], [1, 0, 0], [0, 1, 0]], blocks=[[[1, 2, 4]]]), "face 1 names a node that isn't there"),
-])
+@pytest.mark.parametrize(
+    "wrong, text",
+    [
+        (
+            dict(nodes=[[0, 0, 0.0], [1, 0, 0], [0, 1, 0]], blocks=[[[1, 2, 3]]]),
+            "node 1 has no direction",
+        ),
+        (
+            dict(nodes=[[0, 0, 1.0], [1, 0, 0], [0, 1, 0]], blocks=[[[1, 2, 4]]]),
+            "face 1 names a node that isn't there",
+        ),
+    ],
+)
 def test_damaged_meshes_are_refused_in_one_line(tools, wrong, text):
     floating_exodus(tools.path("in.g"), **wrong)
     assert tools.refused("mesh_in", "in.g", "out.g") == f"mesh_in: in.g: {text}\n"
@@ -159,12 +186,19 @@ def test_the_exact_test_agrees_with_plain_whole_numbers():
 
     def det(a, b, c):
         a, b, c = (list(map(int, v)) for v in (a, b, c))
-        return (a[0] * (b[1] * c[2] - b[2] * c[1]) - a[1] * (b[0] * c[2] - b[2] * c[0])
-                + a[2] * (b[0] * c[1] - b[1] * c[0]))
+        return (
+            a[0] * (b[1] * c[2] - b[2] * c[1])
+            - a[1] * (b[0] * c[2] - b[2] * c[0])
+            + a[2] * (b[0] * c[1] - b[1] * c[0])
+        )
 
     def convex(face):
-        return all(det(face[t], face[(t + 1) % 4], face[s]) > 0
-                   for t in range(4) for s in range(4) if s not in (t, (t + 1) % 4))
+        return all(
+            det(face[t], face[(t + 1) % 4], face[s]) > 0
+            for t in range(4)
+            for s in range(4)
+            if s not in (t, (t + 1) % 4)
+        )
 
     wanted = [place for place, row in enumerate(corners) if not convex(nodes[row])]
     assert mesh.not_convex(nodes, corners, np.full(500, 4)).tolist() == wanted

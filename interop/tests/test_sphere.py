@@ -50,7 +50,9 @@ def test_vortex_by_its_formula_about_the_pole():
     generator = np.random.default_rng(2)
     x = sphere.unit(generator.normal(size=(100, 3)))
     turn = np.pi / 2 - 0.6  # about y, so that latitude 0.6 at longitude 0 becomes the north pole
-    about_y = np.array([[np.cos(turn), 0, -np.sin(turn)], [0, 1, 0], [np.sin(turn), 0, np.cos(turn)]])
+    about_y = np.array(
+        [[np.cos(turn), 0, -np.sin(turn)], [0, 1, 0], [np.sin(turn), 0, np.cos(turn)]]
+    )
     y = x @ about_y.T
     longitude, latitude = np.arctan2(y[:, 1], y[:, 0]), np.arcsin(np.clip(y[:, 2], -1, 1))
     r = 3.0 * np.cos(latitude)

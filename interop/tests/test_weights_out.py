@@ -17,15 +17,41 @@ def carried(tools, source, target):
         tools.tempest(*MESHES[name], "--file", file)
     tools.map_of("a.g", "b.g")
     tools.interop("sample_field", "a.g", "f.nc", "--field", "vortex")
-    tools.tempest("ApplyOfflineMap", "--map", "map.nc", "--var", "psi", "--in_data", "f.nc", "--out_data", "o.nc")
-    tools.interop("field_out", "o.nc", "r.nc", "--var", "psi", "--map", "map.nc", "--mesh", "b.g", "--like", "f.nc")
+    tools.tempest(
+        "ApplyOfflineMap",
+        "--map",
+        "map.nc",
+        "--var",
+        "psi",
+        "--in_data",
+        "f.nc",
+        "--out_data",
+        "o.nc",
+    )
+    tools.interop(
+        "field_out",
+        "o.nc",
+        "r.nc",
+        "--var",
+        "psi",
+        "--map",
+        "map.nc",
+        "--mesh",
+        "b.g",
+        "--like",
+        "f.nc",
+    )
     return values(tools.path("r.nc"), "psi").ravel()
 
 
-@pytest.mark.parametrize("source, target", [("cube", "ring"), ("ring", "cube"), ("dual", "ring"), ("cube", "dual")])
+@pytest.mark.parametrize(
+    "source, target", [("cube", "ring"), ("ring", "cube"), ("dual", "ring"), ("cube", "dual")]
+)
 def test_cdo_remaps_to_the_same_field(tools, source, target):
     wanted = carried(tools, source, target)
-    tools.interop("weights_out", "map.nc", "w.nc", "--source", "a.g", "--target", "b.g", "--style", "scrip")
+    tools.interop(
+        "weights_out", "map.nc", "w.nc", "--source", "a.g", "--target", "b.g", "--style", "scrip"
+    )
     tools.other("cdo", "-s", "-b", "F64", "remap,r.nc,w.nc", "f.nc", "cdo.nc")
     assert values(tools.path("cdo.nc"), "psi").ravel() == pytest.approx(wanted, abs=1e-12)
 
@@ -33,7 +59,9 @@ def test_cdo_remaps_to_the_same_field(tools, source, target):
 @pytest.mark.parametrize("source, target", [("cube", "ring"), ("cube", "dual")])
 def test_ncks_remaps_to_the_same_field(tools, source, target):
     wanted = carried(tools, source, target)
-    tools.interop("weights_out", "map.nc", "w.nc", "--source", "a.g", "--target", "b.g", "--style", "esmf")
+    tools.interop(
+        "weights_out", "map.nc", "w.nc", "--source", "a.g", "--target", "b.g", "--style", "esmf"
+    )
     tools.other("ncpdq", "-O", "-U", "f.nc", "plain.nc")
     tools.other("ncks", "-O", "-C", "-v", "psi", "--map=w.nc", "plain.nc", "nco.nc")
     assert values(tools.path("nco.nc"), "psi").ravel() == pytest.approx(wanted, abs=1e-12)
@@ -43,11 +71,25 @@ def test_both_styles_hold_one_map(cube_and_ring):
     tools = cube_and_ring
     tools.map_of("a.g", "b.g")
     for style in ("scrip", "esmf"):
-        tools.interop("weights_out", "map.nc", f"{style}.nc", "--source", "a.g", "--target", "b.g", "--style", style)
+        tools.interop(
+            "weights_out",
+            "map.nc",
+            f"{style}.nc",
+            "--source",
+            "a.g",
+            "--target",
+            "b.g",
+            "--style",
+            style,
+        )
     matrix = np.zeros((2, 648, 600))
     with netCDF4.Dataset(tools.path("scrip.nc")) as file:
-        matrix[0, file["dst_address"][:] - 1, file["src_address"][:] - 1] = file["remap_matrix"][:, 0]
-        assert file["dst_grid_dims"][:].tolist() == [36, 18] and file["src_grid_dims"][:].tolist() == [600]
+        matrix[0, file["dst_address"][:] - 1, file["src_address"][:] - 1] = file["remap_matrix"][
+            :, 0
+        ]
+        assert file["dst_grid_dims"][:].tolist() == [36, 18] and file["src_grid_dims"][
+            :
+        ].tolist() == [600]
     with netCDF4.Dataset(tools.path("esmf.nc")) as file:
         file.set_auto_mask(False)
         matrix[1, file["row"][:] - 1, file["col"][:] - 1] = file["S"][:]
@@ -62,5 +104,7 @@ def test_both_styles_hold_one_map(cube_and_ring):
 
 def test_a_map_of_other_meshes_is_refused(cube_and_ring):
     cube_and_ring.map_of("a.g", "b.g")
-    said = cube_and_ring.refused("weights_out", "map.nc", "w.nc", "--source", "b.g", "--target", "b.g")
+    said = cube_and_ring.refused(
+        "weights_out", "map.nc", "w.nc", "--source", "b.g", "--target", "b.g"
+    )
     assert said == "weights_out: map.nc: 600 source faces, and the source mesh has 648\n"
