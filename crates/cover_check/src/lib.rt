@@ -6,6 +6,8 @@
 
 mod counting;
 mod rest;
+#[cfg(test)]
+mod tests;
 
 pub use counting::{CoverCount, coverage};
 pub use rest::{remainder, uncovered};
