@@ -28,12 +28,12 @@ pub record IsNamed (sources : RawMesh) (target : List Vec3) (p : CellPlane) : Ty
   pub greatest_edge : p.edge ≤ length (own_face sources target p)
 
 -- a cell is a ring: the cross product of each of its planes and the next is positive on all of its planes but these two
-abbrev pub IsRing : RawMesh → List Vec3 → List CellPlane → Type 0
-IsRing sources target cell = let planes = planes_of sources target cell in Convex (length planes) (vector_at planes)
+abbrev pub IsCellRing : RawMesh → List Vec3 → List CellPlane → Type 0
+IsCellRing sources target cell = let planes = planes_of sources target cell in Convex (length planes) (vector_at planes)
 
 -- a ring of planes that are there
 pub record IsCell (sources : RawMesh) (target : List Vec3) (cell : List CellPlane) : Type 0 where
-  pub ring : IsRing sources target cell
+  pub ring : IsCellRing sources target cell
   pub named : All (IsNamed sources target) cell
 
 -- the plane n is positive on d

@@ -2,9 +2,8 @@
 ghost use Rattle.std.specs.Prelude.{◌≡◌, ◌≤◌, ◌++◌, length, All, Any, IfOk, OnOk, IsTrue};
 ghost use Rattle.vec_exact.specs.declared.Vec3.{Vec3 as Direction};
 ghost use Rattle.cone_laws.specs.Inside.{IsInside};
-ghost use Rattle.cone_laws.specs.Ring.{face_planes};
 ghost use Rattle.mesh_check.specs.Mesh.{corners_of};
-ghost use Rattle.cover_cells.specs.Cells.{IsCell, IsBeyondAnEdge, IsOffEdges, is_in_cell, cells_with, leaves, number_if};
+ghost use Rattle.cover_cells.specs.Cells.{IsCell, IsBeyondAnEdge, IsOffEdges, is_in_cell, cells_with};
 
 use crate::halves::halves;
 use crate::{CellPlane, Cells};
@@ -53,11 +52,6 @@ pub fn cut_cells(
     ensures outside { let with = cells_with a.now (corners_of b.now j) in
         IfOk result (λ left. (d : Direction) → IsOffEdges (corners_of a.now i) d
         → ¬ IsInside (corners_of a.now i) d → with d left ≡ with d cells.now) }
-
-    // The same, and what holds on the edge planes too.
-    ensures count { let with = cells_with a.now (corners_of b.now j) in
-        IfOk result (λ left. (d : Direction)
-        → with d left ≡ number_if (leaves d (face_planes (corners_of a.now i))) (with d cells.now)) }
 {
     let edges = edge_count(a, i);
     let first = CellPlane {

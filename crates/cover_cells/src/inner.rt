@@ -36,14 +36,15 @@ fn sum_of_corners(u: Vec3, v: Vec3, w: Vec3) -> Vec3
     }
 }
 
-/// A direction inside a cell of target `j` of `b` less faces of `a`: the sum of the first three
-/// corners of its ring. Its components are below 2^77 in size. It takes no memory.
+/// A direction inside a cell of target `j` of `b` less faces of `a`. Its components are below 2^77 in
+/// size. It takes no memory.
 pub fn inner_direction(a: &Mesh, b: &Mesh, j: u32, cell: &Cell) -> Vec3
     requires target { (1 ≤ j) × (j ≤ length b.now.faces) }
     requires cell { IsCell a.now (corners_of b.now j) cell.now }
     ensures inside { IsTrue (is_in_cell a.now (corners_of b.now j) result cell.now) }
     ensures size { Within 151115727451828646838271 result }
 {
+    // Each plane of a ring is zero on two of its corners, and positive on all others.
     let planes = cell.items.as_slice();
     sum_of_corners(
         corner_at(a, b, j, planes, 0),

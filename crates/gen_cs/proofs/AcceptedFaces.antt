@@ -33,7 +33,7 @@ these : {A : Type 0} (a b c d a' b' c' d' : A) → a ≡ a' → b ≡ b' → c �
 these a b c d a' b' c' d' e f g h = rw (e, f, g, h) refl
 
 -- the nodes of a face are the corners of its square
-face_is_square : (n : ℕ) (panel : Panel) (j i : ℕ) → 1 ≤ n → i < n → j < n
+pub face_is_square : (n : ℕ) (panel : Panel) (j i : ℕ) → 1 ≤ n → i < n → j < n
     → face_nodes (nodes_of n) (face_at (nodes_of n) n panel j i) ≡ panel_square panel (pos n) (coordinate n i) (coordinate n j)
 face_is_square n panel j i least i_lt j_lt =
     let nodes = nodes_of n in

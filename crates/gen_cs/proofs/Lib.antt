@@ -1,11 +1,11 @@
-mod Ranges
+pub mod Ranges
 mod Searches
 mod Rows
 mod NodeNumbers
 mod Corners
 mod Pieces
 pub mod Counts
-mod Squares
+pub mod Squares
 mod Found
 pub mod AcceptedFaces
 pub mod AcceptedNodes

@@ -78,6 +78,3 @@ returns-clause-inside c = left_inside c.args.a.now (corners_of c.args.b.now c.ar
 
 pub returns-clause-outside : goal.returns-clause-outside
 returns-clause-outside c = left_outside c.args.a.now (corners_of c.args.b.now c.args.j) (corners_of c.args.a.now c.args.i) c.args.cells.now c.loop-t.left (count_here c)
-
-pub returns-clause-count : goal.returns-clause-count
-returns-clause-count c = count_here c

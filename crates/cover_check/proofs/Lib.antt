@@ -1,0 +1,5 @@
+pub mod Nudge
+pub mod Moved
+pub mod LeftOver
+pub mod Less
+pub mod Targets

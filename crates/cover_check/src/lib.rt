@@ -1,0 +1,13 @@
+//! Which faces of a target mesh the faces of a source mesh cover, exactly.
+//!
+//! A target is covered where every direction inside it is in the closure of some source face. Each
+//! source that may meet it is taken away from it, and what is left is a list of cells.
+#![tactic(auto)]
+
+mod counting;
+mod rest;
+#[cfg(test)]
+mod tests;
+
+pub use counting::{CoverCount, coverage};
+pub use rest::{remainder, uncovered};

@@ -1,0 +1,6 @@
+pub mod Filtered
+pub mod PairCounts
+pub mod Found
+pub mod Panels
+pub mod Squares
+pub mod Spheres
