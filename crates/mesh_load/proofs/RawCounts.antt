@@ -6,8 +6,8 @@ use Rattle.std.proofs.lemmas.List.{length-map}
 use Rattle.std.proofs.lemmas.List.Elements.{All-head, All-tail}
 use Rattle.std.proofs.lemmas.List.FromFn.{length-map-range_with_len}
 use Rattle.std.proofs.lemmas.List.Sums.{sum_by-cons, sum_by-append}
-use Rattle.nc_write.specs.Extents.{lens_of}
 use Rattle.nc_format.specs.declared.NcFile.{NcFile}
+use Rattle.nc_format.specs.Grammar.{lens_of}
 use Rattle.nc_format.specs.Numbers.{dim_named}
 use Rattle.exodus_mesh.specs.declared.ids.NameId.TheVariants.{NumElBlk}
 use Rattle.exodus_mesh.specs.declared.ids.NameFault.{NameFault}

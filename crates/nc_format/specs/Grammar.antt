@@ -5,7 +5,7 @@ use Rattle.std.specs.List.{list_any}
 use Rattle.nc_write.specs.declared.NcKind.{NcKind}
 use Rattle.nc_write.specs.Kinds.{kind_numbered, size_of}
 use Rattle.nc_write.specs.Widths.{dimension_tag, variable_tag, attribute_tag, width, begin_width}
-use Rattle.nc_write.specs.Extents.{lens_of}
+pub use Rattle.nc_write.specs.Extents.{lens_of}
 use Rattle.nc_write.specs.declared.DocDim.{DocDim as NcDim}
 use Rattle.nc_format.specs.declared.NcAtt.{NcAtt}
 use Rattle.nc_format.specs.declared.NcVar.{NcVar}
