@@ -8,7 +8,7 @@ use Rattle.nc_write.specs.declared.Values.TheVariants.{Int}
 use Rattle.nc_write.specs.Kinds.{size_of}
 use Rattle.nc_write.specs.Extents.{rounded}
 use Rattle.nc_write.specs.Widths.{width}
-use Rattle.nc_write.specs.File.{version_of, kind_of, numbers_of, is_record, fixed_data, name, variable}
+use Rattle.nc_write.specs.File.{version_of, kind_of, numbers_of, is_record, fixed_data, name_bytes, variable}
 use Rattle.nc_write.proofs.PartLengths.{length_variable}
 use Rattle.nc_write.proofs.Places.{length_fixed_data}
 
@@ -17,7 +17,7 @@ unfolding width
 width_is = refl
 
 -- the part of a header that a variable takes
-pub var_length : (doc : NcDoc) (v : DocVar) (text count : ℕ) → version_of doc ≡ 2 → length (name 2 v.name) ≡ text → length v.dims ≡ count → length (variable doc 0 v) ≡ text + 4 * count + 28
+pub var_length : (doc : NcDoc) (v : DocVar) (text count : ℕ) → version_of doc ≡ 2 → length (name_bytes 2 v.name) ≡ text → length v.dims ≡ count → length (variable doc 0 v) ≡ text + 4 * count + 28
 var_length doc v text count version text_is count_is =
     length_variable 2 v doc 0 (sym version) ∙ ap₂ (λ (a w : ℕ). a + w * (length v.dims + 3) + 16) text_is width_is ∙ ap (λ (n : ℕ). text + 4 * (n + 3) + 16) count_is ∙ omega arith
 

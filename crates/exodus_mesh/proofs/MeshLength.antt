@@ -8,9 +8,9 @@ use Rattle.vec_exact.specs.declared.RawMesh.{RawMesh}
 use Rattle.vec_exact.specs.Counts.{AreAllowedCounts}
 use Rattle.nc_write.specs.declared.DocVar.{DocVar}
 use Rattle.nc_write.specs.declared.NcDoc.{NcDoc}
-use Rattle.nc_write.specs.Extents.{product_of, has_records}
-use Rattle.nc_write.specs.Widths.{width, number}
-use Rattle.nc_write.specs.File.{version_of, lens_of, numbers_of, is_record, fixed_data, header_len, dimension, attribute, name, variable, file_of}
+use Rattle.nc_write.specs.Extents.{lens_of, product_of, has_records}
+use Rattle.nc_write.specs.Widths.{width, number_bytes}
+use Rattle.nc_write.specs.File.{version_of, numbers_of, is_record, fixed_data, header_len, dimension, attribute, name_bytes, variable, file_of}
 use Rattle.nc_write.specs.Form.{IsWellFormed, full_lens}
 use Rattle.nc_write.proofs.PartLengths.{header_len_is}
 use Rattle.nc_write.proofs.Places.{length_file_of_fixed}
@@ -23,22 +23,22 @@ unfolding version_of mesh_document
 version_is raw = refl
 
 dims_length : (n f w : ℕ) → length (flat_map (dimension 2) (dimensions_of n f w)) ≡ 120
-unfolding dimension name number width
+unfolding dimension name_bytes number_bytes width
 dims_length n f w = refl
 
-coord_name : (nodes : List (List ℤ)) → length (name 2 (coord_of nodes).name) ≡ 12
-unfolding name number width
+coord_name : (nodes : List (List ℤ)) → length (name_bytes 2 (coord_of nodes).name) ≡ 12
+unfolding name_bytes number_bytes width
 coord_name nodes = refl
 
-connect_name : (faces : List (List ℤ)) (w : ℕ) → length (name 2 (connect_of faces w).name) ≡ 12
-unfolding name number width
+connect_name : (faces : List (List ℤ)) (w : ℕ) → length (name_bytes 2 (connect_of faces w).name) ≡ 12
+unfolding name_bytes number_bytes width
 connect_name faces w = refl
 
 sum_of_two : (f : DocVar → ℕ) (v w : DocVar) → sum_by f (v ∷ w ∷ []) ≡ f v + f w
 sum_of_two f v w = omega (arith, sum_by-cons f v (w ∷ []), sum_by-cons f w [])
 
 parts_length : (doc : NcDoc) (coord connect : DocVar) → version_of doc ≡ 2 → length (flat_map (dimension 2) doc.dims) ≡ 120 → doc.atts ≡ [] → doc.vars ≡ coord ∷ connect ∷ []
-    → length (name 2 coord.name) ≡ 12 → length (name 2 connect.name) ≡ 12 → length coord.dims ≡ 2 → length connect.dims ≡ 2 → header_len doc ≡ 248
+    → length (name_bytes 2 coord.name) ≡ 12 → length (name_bytes 2 connect.name) ≡ 12 → length coord.dims ≡ 2 → length connect.dims ≡ 2 → header_len doc ≡ 248
 parts_length doc coord connect version dims atts vars coord_name connect_name coord_dims connect_dims =
     let wide : width (version_of doc) ≡ 4 = ap width version ∙ width_is in
     let no_atts : length (flat_map (attribute (version_of doc)) doc.atts) ≡ 0 = ap (λ l. length (flat_map (attribute (version_of doc)) l)) atts in
@@ -165,9 +165,9 @@ mesh_document_form raw some_node some_face counts low high =
       one_record_dim = no_record_dimension (length raw.nodes) (length raw.faces) (width_of raw.faces) some_node some_face low;
       ids = All-from_recursion (λ v. All (λ id. id < 6) v.dims) doc.vars
           (All-from_recursion (λ id. id < 6) (0 ∷ 1 ∷ []) (lit< tt, (lit< tt, tt)), (All-from_recursion (λ id. id < 6) (4 ∷ 5 ∷ []) (lit< tt, (lit< tt, tt)), tt));
-      record_dim_first = All-from_recursion (λ v. All (λ id. slice_index (lens_of doc) id ≢ 0) (drop 1 v.dims)) doc.vars (
-        All-from_recursion (λ id. slice_index (lens_of doc) id ≢ 0) (1 ∷ []) (not_none (length raw.nodes) some_node, tt),
-        (All-from_recursion (λ id. slice_index (lens_of doc) id ≢ 0) (5 ∷ []) (not_none (width_of raw.faces) low, tt), tt),
+      record_dim_first = All-from_recursion (λ v. All (λ id. slice_index (lens_of doc.dims) id ≢ 0) (drop 1 v.dims)) doc.vars (
+        All-from_recursion (λ id. slice_index (lens_of doc.dims) id ≢ 0) (1 ∷ []) (not_none (length raw.nodes) some_node, tt),
+        (All-from_recursion (λ id. slice_index (lens_of doc.dims) id ≢ 0) (5 ∷ []) (not_none (width_of raw.faces) low, tt), tt),
       );
       values = All-from_recursion (λ v. length (numbers_of v.values) ≡ product_of (full_lens doc) v.dims) doc.vars (coord_values raw, (connect_values raw, tt));
       records = lit< tt;

@@ -5,7 +5,7 @@ use Rattle.std.proofs.lemmas.Option.{slice_get_past}
 use Rattle.std.proofs.lemmas.List.Elements.{All-head, All-tail}
 use Rattle.nc_format.specs.declared.NcFile.{NcFile}
 use Rattle.nc_format.specs.declared.NcVar.{NcVar}
-use Rattle.nc_format.specs.Grammar.{lens_of}
+use Rattle.nc_write.specs.Extents.{lens_of}
 use Rattle.exodus_mesh.specs.declared.kinds.NumberKind.{NumberKind}
 use Rattle.exodus_mesh.specs.declared.ids.NameId.{NameId}
 use Rattle.exodus_mesh.specs.declared.ids.NameFault.{NameFault}

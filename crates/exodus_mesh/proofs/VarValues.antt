@@ -7,11 +7,10 @@ use Rattle.std.proofs.lemmas.List.FromFn.{length-map-range_with_len}
 use Rattle.nc_write.specs.declared.NcKind.{NcKind}
 use Rattle.nc_write.specs.declared.NcKind.TheVariants as kinds
 use Rattle.nc_write.specs.Kinds.{size_of}
-use Rattle.nc_write.specs.Extents.{product_of, has_records, piece_count}
+use Rattle.nc_write.specs.Extents.{lens_of, product_of, has_records, piece_count, piece_len}
 use Rattle.nc_format.specs.declared.NcVar.{NcVar}
 use Rattle.nc_format.specs.declared.NcFile.{NcFile}
-use Rattle.nc_format.specs.Grammar.{lens_of}
-use Rattle.nc_format.specs.Placing.{is_record_var, piece_len, part_of, IsPlaced}
+use Rattle.nc_format.specs.Placing.{is_record_var, var_piece_len, part_of, IsPlaced}
 use Rattle.nc_format.specs.Header.{IsHeader}
 use Rattle.nc_format.specs.Numbers.{number_in, numbers_in, HasPieces, HasWholePieces, gathered}
 use Rattle.nc_format.proofs.Pieces.{gathered_len, header_has_pieces, header_is_placed}
@@ -77,7 +76,7 @@ part_is : (f : NcFile) (v : NcVar) → IsPlaced f v → is_record_var f.dims v �
 unfolding piece_len
 part_is f v h fixed =
     let one : v.parts ≡ 1 = h.parts ∙ ap (λ b. if b then f.records else 1) fixed in
-    (one, h.part ∙ ap (λ n. part_of n (piece_len f.dims v)) one)
+    (one, h.part ∙ ap (λ n. part_of n (var_piece_len f.dims v)) one)
 
 -- a variable without the record dimension has as many numbers as the product of its lengths says
 pub values_len : {kind : NumberKind} (bytes : List ℕ) (file : NcFile) (lens : List ℕ) (place : ℕ) → IsHeader bytes (length bytes) file → IsNumberVar kind file lens place → length (values_in file bytes place) ≡ product lens

@@ -3,7 +3,7 @@
 use Rattle.std.specs.Prelude.{ℕ, suc, zero, List, [], ◌∷◌, ◌++◌, Option, Some, None, Result, Ok, Err, slice_index}
 use Rattle.std.specs.List.{sum_by}
 use Rattle.nc_format.specs.declared.NcFile.{NcFile}
-use Rattle.nc_format.specs.Grammar.{lens_of}
+use Rattle.nc_write.specs.Extents.{lens_of}
 use Rattle.nc_format.specs.Numbers.{dim_named, var_named}
 use Rattle.exodus_mesh.specs.declared.kinds.NumberKind.TheVariants.{Int}
 use Rattle.exodus_mesh.specs.declared.ids.NameId.{NameId}

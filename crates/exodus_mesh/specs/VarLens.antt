@@ -4,7 +4,7 @@ use Rattle.std.specs.Prelude.{◌≡◌, ◌≢◌, ℕ, List, [], ◌∷◌, ma
 use Rattle.nc_write.specs.declared.NcKind.{NcKind}
 use Rattle.nc_format.specs.declared.NcFile.{NcFile}
 use Rattle.nc_format.specs.declared.NcVar.{NcVar}
-use Rattle.nc_format.specs.Grammar.{lens_of}
+use Rattle.nc_write.specs.Extents.{lens_of}
 use Rattle.nc_format.specs.Numbers.{is_int, is_long}
 use Rattle.exodus_mesh.specs.declared.kinds.NumberKind.{NumberKind}
 use Rattle.exodus_mesh.specs.declared.kinds.NumberKind.TheVariants.{Int, Long}

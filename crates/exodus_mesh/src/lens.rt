@@ -1,7 +1,7 @@
 // The lengths of variables.
 ghost use Rattle.std.specs.Prelude.{◌≡◌, ◌≤◌, ◌↔◌, ℕ, [], ◌∷◌, length, map, slice_index, IfOk, IfErr, Ok, Err};
 ghost use Rattle.nc_format.specs.Sound.{IsSound};
-ghost use Rattle.nc_format.specs.Grammar.{lens_of};
+ghost use Rattle.nc_write.specs.Extents.{lens_of};
 ghost use Rattle.nc_format.specs.Numbers.{var_named};
 ghost use Rattle.exodus_mesh.specs.Names.{found_or};
 ghost use Rattle.exodus_mesh.specs.VarLens.{is_of, lens_at, one_len, two_lens, var_len, var_lens, IsNumberVar, HasKind, HasOtherKind};

@@ -4,13 +4,13 @@ use Rattle.std.specs.List.{sum_by, list_any}
 use Rattle.std.proofs.lemmas.List.{length-append, length-map}
 use Rattle.std.proofs.lemmas.List.Sums.{sum_by-cons, sum_by_push}
 use Rattle.nc_write.specs.Widths.{width}
-use Rattle.nc_format.specs.declared.NcDim.{NcDim}
+use Rattle.nc_write.specs.declared.DocDim.{DocDim as NcDim}
 use Rattle.nc_format.specs.declared.NcAtt.{NcAtt}
 use Rattle.nc_format.specs.declared.NcVar.{NcVar}
 use Rattle.nc_format.specs.declared.NcFile.{NcFile}
 use Rattle.nc_format.specs.Parts.{Part, field, items, number}
 use Rattle.nc_format.specs.Grammar.{bounded, name, listed, dim, next_dim, dim_list, att, att_list, var, var_list, body, is_record_dim}
-use Rattle.nc_format.specs.Placing.{placed, step_of, with_places}
+use Rattle.nc_format.specs.Placing.{placed, step_from, with_places}
 use Rattle.nc_format.specs.Header.{IsHeader}
 use Rattle.nc_format.specs.Sound.{item_count}
 
@@ -125,7 +125,7 @@ placed_atts records dims step (v ∷ vs) =
 
 with_places_count : (f : NcFile) → item_count (with_places f) ≡ item_count f
 with_places_count f =
-    let step = step_of f.dims f.vars in
+    let step = step_from f.dims f.vars in
     omega (arith, length-map f.vars (placed f.records f.dims step), placed_atts f.records f.dims step f.vars)
 
 pub header_is_few : (b : List ℕ) (len : ℕ) (f : NcFile) → IsHeader b len f → 4 * item_count f ≤ length b

@@ -14,16 +14,16 @@ use Rattle.nc_write.specs.declared.NcKind.{NcKind}
 use Rattle.nc_write.specs.declared.NcDoc.{NcDoc}
 use Rattle.nc_write.specs.declared.DocVar.{DocVar}
 use Rattle.nc_write.specs.Kinds.{size_of, value}
-use Rattle.nc_write.specs.Extents.{pad_len, piece_count}
-use Rattle.nc_write.specs.File.{kind_of, numbers_of, is_record, has_several, fixed_len, record_len, first_len, fixed_total, begin_of, header_len, file_of, padded, padded_if, value_bytes, fixed_data, record_numbers, record_data, piece_len as doc_piece_len, step_of as doc_step_of, lens_of as doc_lens_of}
+use Rattle.nc_write.specs.Extents.{pad_len, lens_of, piece_count, piece_len}
+use Rattle.nc_write.specs.File.{kind_of, numbers_of, is_record, pads_records, fixed_len, record_len, first_len, fixed_total, begin_of, header_len, file_of, padded_bytes, padded_if, value_bytes, fixed_data, record_numbers, record_data, doc_piece_len, doc_step}
 use Rattle.nc_write.specs.Form.{IsWellFormed, HasItsValues}
 use Rattle.nc_write.proofs.Places.{has_its_values, length_value_bytes, record_within}
 use Rattle.nc_write.proofs.Records.{flat_range_more}
 use Rattle.nc_write.proofs.Standing.{fixed_stands, record_stands}
 use Rattle.nc_format.specs.declared.NcVar.{NcVar}
-use Rattle.nc_format.specs.Placing.{is_record_var, piece_len, part_of, own_step, placed}
+use Rattle.nc_format.specs.Placing.{is_record_var, var_piece_len, part_of, own_step, placed}
 use Rattle.nc_format.specs.Numbers.{numbers_in, piece_of, gathered}
-use Rattle.nc_format.specs.Written.{dim_of, var_of, vars_of, header_of, HasTypedValues}
+use Rattle.nc_format.specs.Written.{var_of, vars_of, header_of, HasTypedValues}
 use Rattle.nc_format.proofs.Inside.{piece_same, record_same, step_same, first_step}
 use Rattle.nc_format.proofs.ReadBack.{numbers_back}
 
@@ -47,25 +47,25 @@ flat_same f g a (suc n) h =
 -- Records.
 
 -- a record variable has the values of all records
-record_count : (doc : NcDoc) (v : DocVar) → is_record doc v ≡ true → HasItsValues doc v → length (numbers_of v.values) ≡ doc.records * piece_count (doc_lens_of doc) v.dims
-record_count doc v e h = h ∙ ap (λ (b : Bool). (if b then doc.records else 1) * piece_count (doc_lens_of doc) v.dims) e
+record_count : (doc : NcDoc) (v : DocVar) → is_record doc v ≡ true → HasItsValues doc v → length (numbers_of v.values) ≡ doc.records * piece_count (lens_of doc.dims) v.dims
+record_count doc v e h = h ∙ ap (λ (b : Bool). (if b then doc.records else 1) * piece_count (lens_of doc.dims) v.dims) e
 
 -- the bytes of one record of a variable, without padding
 record_bytes : NcDoc → DocVar → ℕ → List ℕ
 record_bytes doc v r = value_bytes (kind_of v.values) (record_numbers doc r v)
 
 record_bytes_len : (doc : NcDoc) (v : DocVar) (r : ℕ) → r < doc.records → is_record doc v ≡ true → HasItsValues doc v → length (record_bytes doc v r) ≡ doc_piece_len doc v
-unfolding record_bytes doc_piece_len
+unfolding record_bytes piece_len
 record_bytes_len doc v r lt e h =
-    let count = piece_count (doc_lens_of doc) v.dims in
+    let count = piece_count (lens_of doc.dims) v.dims in
     let n = record_count doc v e h in
     let within = record_within r doc.records count lt in
     let part : length (record_numbers doc r v) ≡ count = length-take-le count (drop (r * count) (numbers_of v.values)) (omega (arith, length-drop (r * count) (numbers_of v.values), within, n)) in
     length_value_bytes (kind_of v.values) (record_numbers doc r v) ∙ ap (λ k. size_of (kind_of v.values) * k) part
 
-record_is : (doc : NcDoc) (v : DocVar) (r : ℕ) → is_record doc v ≡ true → record_data doc r v ≡ padded_if (has_several doc) (record_bytes doc v r)
+record_is : (doc : NcDoc) (v : DocVar) (r : ℕ) → is_record doc v ≡ true → record_data doc r v ≡ padded_if (pads_records doc) (record_bytes doc v r)
 unfolding record_data record_bytes
-record_is doc v r e = ap (λ (b : Bool). if b then padded_if (has_several doc) (value_bytes (kind_of v.values) (record_numbers doc r v)) else []) e
+record_is doc v r e = ap (λ (b : Bool). if b then padded_if (pads_records doc) (value_bytes (kind_of v.values) (record_numbers doc r v)) else []) e
 
 -- Pieces.
 
@@ -82,24 +82,24 @@ pub record Split (doc : NcDoc) (before : List DocVar) (v : DocVar) (after : List
 
 fixed_slice : (doc : NcDoc) (before : List DocVar) (v : DocVar) (after : List DocVar) → Split doc before v after → is_record doc v ≡ false → (i j : ℕ) → i ≡ header_len doc + sum_by (fixed_len doc) before → j ≡ i + doc_piece_len doc v
     → slice_range (file_of doc) i j ≡ value_bytes (kind_of v.values) (numbers_of v.values)
-unfolding fixed_data doc_piece_len
+unfolding fixed_data piece_len
 fixed_slice doc before v after s e i j at end =
     let bytes = value_bytes (kind_of v.values) (numbers_of v.values) in
     let pad : List ℕ = replicate (pad_len (length bytes)) 0x81 in
     let stands = fixed_stands doc before after v s.parts s.all_have in
-    let here : fixed_data doc v ≡ bytes ++ pad = ap (λ (b : Bool). if b then [] else padded 0x81 bytes) e in
-    let n : length bytes ≡ size_of (kind_of v.values) * piece_count (doc_lens_of doc) v.dims =
-    length_value_bytes (kind_of v.values) (numbers_of v.values) ∙ ap (λ k. size_of (kind_of v.values) * k) (s.has ∙ ap (λ (b : Bool). (if b then doc.records else 1) * piece_count (doc_lens_of doc) v.dims) e ∙ one-mul (piece_count (doc_lens_of doc) v.dims)) in
+    let here : fixed_data doc v ≡ bytes ++ pad = ap (λ (b : Bool). if b then [] else padded_bytes 0x81 bytes) e in
+    let n : length bytes ≡ size_of (kind_of v.values) * piece_count (lens_of doc.dims) v.dims =
+    length_value_bytes (kind_of v.values) (numbers_of v.values) ∙ ap (λ k. size_of (kind_of v.values) * k) (s.has ∙ ap (λ (b : Bool). (if b then doc.records else 1) * piece_count (lens_of doc.dims) v.dims) e ∙ one-mul (piece_count (lens_of doc.dims) v.dims)) in
     slice_front (file_of doc) bytes pad stands.0 (header_len doc + sum_by (fixed_len doc) before) i j (stands.1 ∙ ap (λ (l : List ℕ). l ++ stands.0) here) at (end ∙ ap (λ (k : ℕ). i + k) (sym n))
 
-record_slice : (doc : NcDoc) (before : List DocVar) (v : DocVar) (after : List DocVar) → Split doc before v after → is_record doc v ≡ true → (r : ℕ) → r < doc.records → (i j : ℕ) → i ≡ header_len doc + fixed_total doc + sum_by (record_len doc) before + r * doc_step_of doc → j ≡ i + doc_piece_len doc v
+record_slice : (doc : NcDoc) (before : List DocVar) (v : DocVar) (after : List DocVar) → Split doc before v after → is_record doc v ≡ true → (r : ℕ) → r < doc.records → (i j : ℕ) → i ≡ header_len doc + fixed_total doc + sum_by (record_len doc) before + r * doc_step doc → j ≡ i + doc_piece_len doc v
     → slice_range (file_of doc) i j ≡ record_bytes doc v r
 record_slice doc before v after s e r lt i j at end =
     let bytes = record_bytes doc v r in
-    let pad = padding_behind (has_several doc) bytes in
+    let pad = padding_behind (pads_records doc) bytes in
     let stands = record_stands doc before after v s.parts s.all_have r lt in
     let here : record_data doc r v ≡ bytes ++ pad.0 = record_is doc v r e ∙ pad.1 in
-    slice_front (file_of doc) bytes pad.0 stands.0 (header_len doc + fixed_total doc + sum_by (record_len doc) before + r * doc_step_of doc) i j (stands.1 ∙ ap (λ (l : List ℕ). l ++ stands.0) here) at (end ∙ ap (λ (k : ℕ). i + k) (sym (record_bytes_len doc v r lt e s.has)))
+    slice_front (file_of doc) bytes pad.0 stands.0 (header_len doc + fixed_total doc + sum_by (record_len doc) before + r * doc_step doc) i j (stands.1 ∙ ap (λ (l : List ℕ). l ++ stands.0) here) at (end ∙ ap (λ (k : ℕ). i + k) (sym (record_bytes_len doc v r lt e s.has)))
 
 -- All pieces of a variable.
 
@@ -120,11 +120,11 @@ part_is : (n len r : ℕ) → r < n → part_of n len ≡ len
 part_is n len r lt = ap (λ (b : Bool). if b then 0 else len) (let e : (n == 0) ≡ false = grind (arith, nat_tests) in e)
 
 -- the records of a variable, one after another, are its values
-records_joined : (doc : NcDoc) (v : DocVar) (n : ℕ) → flat_map (record_bytes doc v) (range_with_len 0 n) ≡ value_bytes (kind_of v.values) (take (n * piece_count (doc_lens_of doc) v.dims) (numbers_of v.values))
+records_joined : (doc : NcDoc) (v : DocVar) (n : ℕ) → flat_map (record_bytes doc v) (range_with_len 0 n) ≡ value_bytes (kind_of v.values) (take (n * piece_count (lens_of doc.dims) v.dims) (numbers_of v.values))
 unfolding record_bytes
-records_joined doc v zero = ap (λ (k : ℕ). value_bytes (kind_of v.values) (take k (numbers_of v.values))) (let e : 0 ≡ 0 * piece_count (doc_lens_of doc) v.dims = omega arith in e)
+records_joined doc v zero = ap (λ (k : ℕ). value_bytes (kind_of v.values) (take k (numbers_of v.values))) (let e : 0 ≡ 0 * piece_count (lens_of doc.dims) v.dims = omega arith in e)
 records_joined doc v (suc n) =
-    let count = piece_count (doc_lens_of doc) v.dims in
+    let count = piece_count (lens_of doc.dims) v.dims in
     let numbers = numbers_of v.values in
     let kind = kind_of v.values in
     ap (λ (k : ℕ). flat_map (record_bytes doc v) (range_with_len 0 k)) (sym (add-one n))
@@ -137,7 +137,7 @@ records_joined doc v (suc n) =
 -- a variable as it stands in the header of a document: behind those before it
 abbrev header_var : NcDoc → List DocVar → DocVar → NcVar
 header_var doc before v =
-    placed doc.records (map dim_of doc.dims) (doc_step_of doc) (var_of (begin_of doc (header_len doc + sum_by (fixed_len doc) before) (header_len doc + fixed_total doc + sum_by (first_len doc) before) v) v)
+    placed doc.records doc.dims (doc_step doc) (var_of (begin_of doc (header_len doc + sum_by (fixed_len doc) before) (header_len doc + fixed_total doc + sum_by (first_len doc) before) v) v)
 
 fixed_gathered : (doc : NcDoc) (before : List DocVar) (v : DocVar) (after : List DocVar) → Split doc before v after → is_record doc v ≡ false → gathered (header_var doc before v) (file_of doc) ≡ value_bytes (kind_of v.values) (numbers_of v.values)
 unfolding placed
@@ -146,9 +146,9 @@ fixed_gathered doc before v after s e =
     let begin = begin_of doc fixed (header_len doc + fixed_total doc + sum_by (first_len doc) before) v in
     let w = header_var doc before v in
     let at : begin ≡ fixed = ap (λ (b : Bool). if b then header_len doc + fixed_total doc + sum_by (first_len doc) before else fixed) e in
-    let is_not : is_record_var (map dim_of doc.dims) (var_of begin v) ≡ false = record_same doc begin v ∙ e in
+    let is_not : is_record_var doc.dims (var_of begin v) ≡ false = record_same doc begin v ∙ e in
     let one : w.parts ≡ 1 = ap (λ (b : Bool). if b then doc.records else 1) is_not in
-    let part : w.part ≡ doc_piece_len doc v = ap (λ (n : ℕ). part_of n (piece_len (map dim_of doc.dims) (var_of begin v))) one ∙ piece_same doc begin v in
+    let part : w.part ≡ doc_piece_len doc v = ap (λ (n : ℕ). part_of n (var_piece_len doc.dims (var_of begin v))) one ∙ piece_same doc begin v in
     let none : 0 * w.step ≡ 0 = omega arith in
     gathered_one w (file_of doc) (value_bytes (kind_of v.values) (numbers_of v.values)) one
     (fixed_slice doc before v after s e (w.begin + 0 * w.step) (w.begin + 0 * w.step + w.part) (omega (arith, at, none)) (omega (arith, part)))
@@ -160,14 +160,14 @@ record_gathered doc before v after s e =
     let begin = begin_of doc (header_len doc + sum_by (fixed_len doc) before) records_at v in
     let w = header_var doc before v in
     let at : begin ≡ records_at = ap (λ (b : Bool). if b then records_at else header_len doc + sum_by (fixed_len doc) before) e in
-    let is : is_record_var (map dim_of doc.dims) (var_of begin v) ≡ true = record_same doc begin v ∙ e in
+    let is : is_record_var doc.dims (var_of begin v) ≡ true = record_same doc begin v ∙ e in
     let many : w.parts ≡ doc.records = ap (λ (b : Bool). if b then doc.records else 1) is in
     let piece : (r : ℕ) → r < doc.records → piece_of w (file_of doc) r ≡ record_bytes doc v r =
     λ r lt.
-    let step : r * w.step ≡ r * doc_step_of doc = ap (λ (n : ℕ). r * own_step n (doc_step_of doc)) many ∙ own_step_is doc.records (doc_step_of doc) r lt in
-    let part : w.part ≡ doc_piece_len doc v = ap (λ (n : ℕ). part_of n (piece_len (map dim_of doc.dims) (var_of begin v))) many ∙ part_is doc.records (piece_len (map dim_of doc.dims) (var_of begin v)) r lt ∙ piece_same doc begin v in
+    let step : r * w.step ≡ r * doc_step doc = ap (λ (n : ℕ). r * own_step n (doc_step doc)) many ∙ own_step_is doc.records (doc_step doc) r lt in
+    let part : w.part ≡ doc_piece_len doc v = ap (λ (n : ℕ). part_of n (var_piece_len doc.dims (var_of begin v))) many ∙ part_is doc.records (var_piece_len doc.dims (var_of begin v)) r lt ∙ piece_same doc begin v in
     record_slice doc before v after s e r lt (w.begin + r * w.step) (w.begin + r * w.step + w.part) (omega (arith, at, step, first_step doc before (omega arith))) (omega (arith, part)) in
-    let count = piece_count (doc_lens_of doc) v.dims in
+    let count = piece_count (lens_of doc.dims) v.dims in
     gathered_many w (file_of doc) doc.records (record_bytes doc v) many piece
     ∙ records_joined doc v doc.records
     ∙ ap (value_bytes (kind_of v.values)) (take_all (doc.records * count) (numbers_of v.values) (omega (arith, record_count doc v e s.has)))
@@ -193,7 +193,7 @@ var_values doc before v after s typed =
     ap (λ (k : NcKind). numbers_in k (gathered (header_var doc before v) (file_of doc))) kind ∙ ap (numbers_in (kind_of v.values)) (var_gathered doc before v after s) ∙ numbers_back (kind_of v.values) (numbers_of v.values) typed
 
 vars_values : (doc : NcDoc) (before vs : List DocVar) → doc.vars ≡ before ++ vs → All (HasItsValues doc) vs → All (HasItsValues doc) doc.vars → All HasTypedValues vs
-    → AllZip (HasValues doc) (map (placed doc.records (map dim_of doc.dims) (doc_step_of doc)) (vars_of doc (header_len doc + sum_by (fixed_len doc) before) (header_len doc + fixed_total doc + sum_by (first_len doc) before) vs)) vs
+    → AllZip (HasValues doc) (map (placed doc.records doc.dims (doc_step doc)) (vars_of doc (header_len doc + sum_by (fixed_len doc) before) (header_len doc + fixed_total doc + sum_by (first_len doc) before) vs)) vs
 vars_values doc before [] parts have all typed = tt
 vars_values doc before (v ∷ vs) parts have all typed =
     let s : Split doc before v vs = record { parts = parts; has = All-head (HasItsValues doc) v vs have; all_have = all } in
@@ -201,7 +201,7 @@ vars_values doc before (v ∷ vs) parts have all typed =
     let rest = vars_values doc (before ++ v ∷ []) vs next (All-tail (HasItsValues doc) v vs have) all (All-tail HasTypedValues v vs typed) in
     let one : header_len doc + sum_by (fixed_len doc) (before ++ v ∷ []) ≡ header_len doc + sum_by (fixed_len doc) before + fixed_len doc v = omega (arith, sum_by_push (fixed_len doc) before v) in
     let two : header_len doc + fixed_total doc + sum_by (first_len doc) (before ++ v ∷ []) ≡ header_len doc + fixed_total doc + sum_by (first_len doc) before + first_len doc v = omega (arith, sum_by_push (first_len doc) before v) in
-    let place = placed doc.records (map dim_of doc.dims) (doc_step_of doc) in (
+    let place = placed doc.records doc.dims (doc_step doc) in (
       var_values doc before v vs s (All-head HasTypedValues v vs typed),
       subst (λ (n : ℕ). AllZip (HasValues doc) (map place (vars_of doc n (header_len doc + fixed_total doc + sum_by (first_len doc) before + first_len doc v) vs)) vs) one
           (subst (λ (n : ℕ). AllZip (HasValues doc) (map place (vars_of doc (header_len doc + sum_by (fixed_len doc) (before ++ v ∷ [])) n vs)) vs) two rest),
@@ -213,9 +213,9 @@ doc_values doc h typed =
     let begin = header_len doc in
     let records_at = begin + fixed_total doc in
     let whole = vars_values doc [] doc.vars refl all all typed in
-    let place : ℕ → NcVar → NcVar = placed doc.records (map dim_of doc.dims) in
+    let place : ℕ → NcVar → NcVar = placed doc.records doc.dims in
     let none : begin + sum_by (fixed_len doc) [] ≡ begin = omega arith in
     let none_there : records_at + sum_by (first_len doc) [] ≡ records_at = omega arith in
     subst (λ (s : ℕ). AllZip (HasValues doc) (map (place s) (vars_of doc begin records_at doc.vars)) doc.vars) (sym (step_same doc begin records_at))
-    (subst (λ (n : ℕ). AllZip (HasValues doc) (map (place (doc_step_of doc)) (vars_of doc n records_at doc.vars)) doc.vars) none
-    (subst (λ (n : ℕ). AllZip (HasValues doc) (map (place (doc_step_of doc)) (vars_of doc (begin + sum_by (fixed_len doc) []) n doc.vars)) doc.vars) none_there whole))
+    (subst (λ (n : ℕ). AllZip (HasValues doc) (map (place (doc_step doc)) (vars_of doc n records_at doc.vars)) doc.vars) none
+    (subst (λ (n : ℕ). AllZip (HasValues doc) (map (place (doc_step doc)) (vars_of doc (begin + sum_by (fixed_len doc) []) n doc.vars)) doc.vars) none_there whole))

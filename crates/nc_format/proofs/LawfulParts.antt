@@ -1,7 +1,7 @@
 -- Each part of a header is lawful.
 use Rattle.std.proofs.Common.{ℕ, Bool, List, []}
 use Rattle.nc_write.specs.Widths.{width, begin_width}
-use Rattle.nc_format.specs.declared.NcDim.{NcDim}
+use Rattle.nc_write.specs.declared.DocDim.{DocDim as NcDim}
 use Rattle.nc_format.specs.Parts.{Part}
 use Rattle.nc_format.specs.Grammar.{bounded, name, tag, count, listed, nc_type, numrecs, dim, dim_list, att, att_list, dim_id, dim_ids, var, var_list, body, is_record_dim, next_dim, next_id}
 use Rattle.nc_format.proofs.Lawful.{IsLawful, gives_lawful, bind_lawful, such_that_lawful, items_lawful, number_lawful, padded_lawful}

@@ -1,13 +1,10 @@
 -- Reading items one after the other, as a loop does.
-use Rattle.std.proofs.Common.{◌≡◌, map, length, get_or, Bool, true, false, ◌||◌, ℕ, suc, ◌-◌, ◌+◌, ◌≤◌, ◌<◌, List, [], ◌∷◌, ◌++◌, Result, Ok, Err, slice_index, refl, sym, ap, ◌∙◌, arith}
+use Rattle.std.proofs.Common.{◌≡◌, Bool, true, false, ◌||◌, ℕ, suc, ◌-◌, ◌+◌, ◌≤◌, ◌<◌, List, [], ◌∷◌, ◌++◌, Result, Ok, Err, refl, sym, ap, ◌∙◌, arith}
 use Rattle.nc_format.specs.declared.fault.NcFault.{NcFault}
 use Rattle.nc_format.specs.declared.fault.NcFault.TheVariants as faults
 use Rattle.nc_format.specs.Answers.{Refuses}
 use Rattle.nc_format.specs.Parts.{Part, items}
-use Rattle.nc_format.specs.Grammar.{lens_of}
-use Rattle.nc_format.specs.declared.NcDim.{NcDim}
 use Rattle.std.specs.List.{list_any}
-use Rattle.std.proofs.lemmas.List.{get_or-map, get_or_past, length-map}
 use Rattle.std.proofs.lemmas.List.Folds.{list_any-append}
 
 pub goes_on : {A : Type 0} (item : List A → Part A) (count i : ℕ) (front : List A) (b : List ℕ) (o : ℕ) (x : A) (after : ℕ) (total : Result (List A × ℕ) NcFault)
@@ -49,9 +46,3 @@ or_false false = refl
 
 pub any_pushed : {A : Type 0} (p : A → Bool) (xs : List A) (x : A) → list_any p (xs ++ x ∷ []) ≡ (list_any p xs || p x)
 any_pushed p xs x = list_any-append p xs (x ∷ []) ∙ ap (λ v. list_any p xs || v) (or_false (p x))
-
-pub len_here : (dims : List NcDim) (i : ℕ) (d : NcDim) → i < length dims → d ≡ get_or dims i d → slice_index (lens_of dims) i ≡ d.len
-len_here dims i d lt is = get_or-map (λ x. x.len) dims i d 0 lt ∙ ap (λ (x : NcDim). x.len) (sym is)
-
-pub len_past : (dims : List NcDim) (i : ℕ) → length dims ≤ i → slice_index (lens_of dims) i ≡ 0
-len_past dims i le = get_or_past (map (λ x. x.len) dims) i 0 (omega (arith, length-map {A = NcDim} {B = ℕ} dims (λ x. x.len)))

@@ -8,12 +8,11 @@ use Rattle.std.proofs.lemmas.List.{length-append, length-drop, length-take-le}
 use Rattle.std.specs.List.{flat_map, range_with_len, count_by, sum_by}
 use Rattle.nc_write.proofs.Records.{flat_range_more}
 use Rattle.nc_write.specs.Kinds.{size_of}
-use Rattle.nc_write.specs.Extents.{piece_count}
-use Rattle.nc_format.specs.declared.NcDim.{NcDim}
+use Rattle.nc_write.specs.Extents.{lens_of, piece_count, piece_len, share_of, has_several}
+use Rattle.nc_write.specs.declared.DocDim.{DocDim as NcDim}
 use Rattle.nc_format.specs.declared.NcVar.{NcVar}
 use Rattle.nc_format.specs.declared.NcFile.{NcFile}
-use Rattle.nc_format.specs.Grammar.{lens_of}
-use Rattle.nc_format.specs.Placing.{is_record_var, share, piece_len, parts_of, own_step, IsPlaced, placed, placed_vars, with_places, step_of, end_of, is_outside}
+use Rattle.nc_format.specs.Placing.{is_record_var, var_piece_len, parts_of, own_step, IsPlaced, placed, placed_vars, with_places, step_from, end_of, is_outside}
 use Rattle.nc_format.specs.Header.{IsHeader}
 use Rattle.nc_format.specs.Numbers.{HasPieces, HasWholePieces, piece_of}
 
@@ -50,8 +49,8 @@ gathered_len v file (suc n) h le =
 pub header_has_pieces : (b : List ℕ) (len : ℕ) (f : NcFile) → IsHeader b len f → All (HasWholePieces len) f.vars
 header_has_pieces b len f h =
     let g = h.fields in
-    let place = placed g.records g.dims (step_of g.dims g.vars) in
-    let whole : All (λ v. v.part % size_of v.kind ≡ 0) (placed_vars g) = All-map (λ (v : NcVar). v.part % size_of v.kind ≡ 0) place g.vars (λ k d lt. placed_whole g.records g.dims (step_of g.dims g.vars) (get_or g.vars k d)) in
+    let place = placed g.records g.dims (step_from g.dims g.vars) in
+    let whole : All (λ v. v.part % size_of v.kind ≡ 0) (placed_vars g) = All-map (λ (v : NcVar). v.part % size_of v.kind ≡ 0) place g.vars (λ k d lt. placed_whole g.records g.dims (step_from g.dims g.vars) (get_or g.vars k d)) in
     let here : All (λ v. v.part % size_of v.kind ≡ 0) f.vars = subst (λ (x : NcFile). All (λ v. v.part % size_of v.kind ≡ 0) x.vars) (sym h.placed) whole in
     λ k d lt. record { inside = inside_has_pieces len (get_or f.vars k d) (h.inside k d lt); whole = here k d lt }
 
@@ -64,25 +63,27 @@ record_kept : (records : ℕ) (dims : List NcDim) (step : ℕ) (v : NcVar) → i
 unfolding placed
 record_kept records dims step v = refl
 
-share_kept : (records : ℕ) (dims : List NcDim) (step : ℕ) (several : Bool) (v : NcVar) → share dims several (placed records dims step v) ≡ share dims several v
-unfolding placed share piece_len
+share_kept : (records : ℕ) (dims : List NcDim) (step : ℕ) (several : Bool) (v : NcVar)
+    → share_of several (is_record_var dims (placed records dims step v)) (var_piece_len dims (placed records dims step v)) ≡ share_of several (is_record_var dims v) (var_piece_len dims v)
+unfolding placed
 share_kept records dims step several v = refl
 
-step_kept : (records : ℕ) (dims : List NcDim) (step : ℕ) (vars : List NcVar) → step_of dims (map (placed records dims step) vars) ≡ step_of dims vars
-unfolding step_of
+step_kept : (records : ℕ) (dims : List NcDim) (step : ℕ) (vars : List NcVar) → step_from dims (map (placed records dims step) vars) ≡ step_from dims vars
+unfolding has_several
 step_kept records dims step vars =
     let placed_all = map (placed records dims step) vars in
+    let share : Bool → NcVar → ℕ = λ several v. share_of several (is_record_var dims v) (var_piece_len dims v) in
     let counted : count_by (is_record_var dims) placed_all ≡ count_by (is_record_var dims) vars = sum_kept (λ (v : NcVar). if is_record_var dims v then 1 else 0) records dims step (λ v. ap (λ (b : Bool). if b then 1 else 0) (record_kept records dims step v)) vars in
-    ap (λ (n : ℕ). sum_by (share dims (not (n == 1))) placed_all) counted
-    ∙ sum_kept (share dims (not (count_by (is_record_var dims) vars == 1))) records dims step (share_kept records dims step (not (count_by (is_record_var dims) vars == 1))) vars
+    ap (λ (n : ℕ). sum_by (share (not (n == 1))) placed_all) counted
+    ∙ sum_kept (share (not (count_by (is_record_var dims) vars == 1))) records dims step (share_kept records dims step (not (count_by (is_record_var dims) vars == 1))) vars
 
-one_placed : (g : NcFile) (v : NcVar) → IsPlaced (with_places g) (placed g.records g.dims (step_of g.dims g.vars) v)
+one_placed : (g : NcFile) (v : NcVar) → IsPlaced (with_places g) (placed g.records g.dims (step_from g.dims g.vars) v)
 unfolding placed piece_len
-one_placed g v = record { parts = refl; part = refl; step = ap (own_step (parts_of g.records g.dims v)) (sym (step_kept g.records g.dims (step_of g.dims g.vars) g.vars)) }
+one_placed g v = record { parts = refl; part = refl; step = ap (own_step (parts_of g.records g.dims v)) (sym (step_kept g.records g.dims (step_from g.dims g.vars) g.vars)) }
 
 placed_file : (g : NcFile) → All (IsPlaced (with_places g)) (placed_vars g)
 placed_file g =
-    let step = step_of g.dims g.vars in
+    let step = step_from g.dims g.vars in
     All-map (IsPlaced (with_places g)) (placed g.records g.dims step) g.vars (λ k d lt. one_placed g (get_or g.vars k d))
 
 -- where the values stand is told by the dimensions of the header

@@ -6,13 +6,13 @@ use Rattle.std.proofs.lemmas.List.{length-take, length-append, length-map}
 use Rattle.std.proofs.lemmas.List.Elements.{All-nil, All-push, All-map, All-weaker}
 use Rattle.std.proofs.lemmas.List.Sums.{sum_by_push}
 use Rattle.nc_write.specs.Extents.{rounded}
-use Rattle.nc_format.specs.declared.NcDim.{NcDim}
+use Rattle.nc_write.specs.declared.DocDim.{DocDim as NcDim}
 use Rattle.nc_format.specs.declared.NcAtt.{NcAtt}
 use Rattle.nc_format.specs.declared.NcVar.{NcVar}
 use Rattle.nc_format.specs.declared.NcFile.{NcFile}
 use Rattle.nc_format.specs.Parts.{Part, field, items, padded}
 use Rattle.nc_format.specs.Grammar.{bounded, count, listed, is_record_dim, dim, next_dim, dim_list, att, att_list, dim_id, next_id, dim_ids, var, var_list, body}
-use Rattle.nc_format.specs.Placing.{placed, with_places, step_of}
+use Rattle.nc_format.specs.Placing.{placed, with_places, step_from}
 use Rattle.nc_format.specs.Header.{IsHeader}
 use Rattle.nc_format.specs.Sound.{IsSoundAtt, IsSoundVar, IsSound}
 
@@ -129,7 +129,7 @@ placed_sound n records dims step v h = record { ids = h.ids; atts = h.atts }
 
 with_places_sound : (g : NcFile) → IsSound g → IsSound (with_places g)
 with_places_sound g h =
-    let step = step_of g.dims g.vars in
+    let step = step_from g.dims g.vars in
     record {
       few_dims = h.few_dims;
       few_vars = omega (arith, h.few_vars, length-map g.vars (placed g.records g.dims step));

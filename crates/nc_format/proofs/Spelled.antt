@@ -17,21 +17,21 @@ use Rattle.nc_write.specs.declared.DocAtt.{DocAtt}
 use Rattle.nc_write.specs.declared.DocVar.{DocVar}
 use Rattle.nc_write.specs.declared.Values.{Values}
 use Rattle.nc_write.specs.declared.Values.TheVariants.{Byte, Int, Long}
-use Rattle.nc_write.specs.Kinds.{type_number, size_of, value}
-use Rattle.nc_write.specs.Widths.{width, begin_width, number as spelled_number, offset, code}
-use Rattle.nc_write.specs.Extents.{pad_len, rounded}
-use Rattle.nc_write.specs.File.{kind_of, is_record, is_long, are_long, version_of, padded as with_padding, name as spelled_name, tagged, dimension, attribute, vsize, vsize_limit, shape, variable, variables, begin_of, fixed_len, first_len, fixed_total, piece_len, header, header_len, file_of, data_of}
+use Rattle.nc_write.specs.Kinds.{type_number, kind_numbered, size_of, value}
+use Rattle.nc_write.specs.Widths.{width, begin_width, number_bytes as spelled_number, offset, code}
+use Rattle.nc_write.specs.Extents.{pad_len, rounded, lens_of}
+use Rattle.nc_write.specs.File.{kind_of, is_record, has_longs, are_long, version_of, padded_bytes as with_padding, name_bytes as spelled_name, tagged, dimension, attribute, vsize, vsize_limit, shape, variable, variables, begin_of, fixed_len, first_len, fixed_total, doc_piece_len, header, header_len, file_of, data_of}
 use Rattle.nc_write.specs.Form.{IsWellFormed}
 use Rattle.nc_write.proofs.PartLengths.{length_number, length_value, length_padded, length_header_any}
 use Rattle.nc_write.proofs.Places.{has_its_values, length_file_of, first_within}
-use Rattle.nc_format.specs.declared.NcDim.{NcDim}
+use Rattle.nc_write.specs.declared.DocDim.{DocDim as NcDim}
 use Rattle.nc_format.specs.declared.NcAtt.{NcAtt}
 use Rattle.nc_format.specs.declared.NcVar.{NcVar}
 use Rattle.nc_format.specs.declared.fault.NcFault.TheVariants.{BadField}
 use Rattle.nc_format.specs.Parts.{◌>>=◌, Part, gives, field, such_that, items, number, padded}
-use Rattle.nc_format.specs.Grammar.{bounded, name, tag, count, listed, is_type, kind_numbered, nc_type, all_ff, numrecs, is_record_dim, dim, next_dim, dim_list, att, att_list, lens_of, dim_id, next_id, dim_ids, var, var_list, body}
+use Rattle.nc_format.specs.Grammar.{bounded, name, tag, count, listed, is_type, nc_type, all_ff, numrecs, is_record_dim, dim, next_dim, dim_list, att, att_list, dim_id, next_id, dim_ids, var, var_list, body}
 use Rattle.nc_format.specs.Header.{is_version, IsSpelled, header_read}
-use Rattle.nc_format.specs.Written.{dim_of, att_of, var_of, vars_of, fields_of}
+use Rattle.nc_format.specs.Written.{att_of, var_of, vars_of, fields_of}
 use Rattle.nc_format.proofs.Whole.{header_whole}
 
 either : (b : Bool) → (b ≡ true) ⊎ (b ≡ false)
@@ -84,11 +84,11 @@ bounded_put version n lt = (wide_put version n lt, le-leb n 4294967295 (omega ar
 -- a begin has eight bytes in the versions that are written
 eight : (doc : NcDoc) → begin_width (version_of doc) ≡ 8
 unfolding begin_width version_of
-eight doc = elim (list_any is_long doc.vars) as (λ b. let w : ℕ = if (if b then 5 else 2) == 1 then 4 else 8 in w ≡ 8) [ true ↦ refl | false ↦ refl ]
+eight doc = elim (list_any has_longs doc.vars) as (λ b. let w : ℕ = if (if b then 5 else 2) == 1 then 4 else 8 in w ≡ 8) [ true ↦ refl | false ↦ refl ]
 
 known_version : (doc : NcDoc) → is_version (version_of doc) ≡ true
 unfolding version_of
-known_version doc = elim (list_any is_long doc.vars) as (λ b. is_version (if b then 5 else 2) ≡ true) [ true ↦ refl | false ↦ refl ]
+known_version doc = elim (list_any has_longs doc.vars) as (λ b. is_version (if b then 5 else 2) ≡ true) [ true ↦ refl | false ↦ refl ]
 
 offset_put : (doc : NcDoc) (n : ℕ) → n < 2 ^ 63 → (number (begin_width (version_of doc))).Spells (offset (version_of doc) n) n
 unfolding offset
@@ -243,11 +243,11 @@ atts_fit version front [] h = tt
 atts_fit version front (a ∷ more) h =
     (attribute_put version a (All-head (λ (x : DocAtt). length x.name < 2 ^ 31) a more h), atts_fit version (front ++ att_of a ∷ []) more (All-tail (λ (x : DocAtt). length x.name < 2 ^ 31) a more h))
 
-dimension_put : (version : ℕ) (seen : Bool) (d : DocDim) → length d.name < 2 ^ 31 → d.len ≤ 4294967295 → not (seen && d.len == 0) ≡ true → (dim version seen).Spells (dimension version d) (dim_of d)
+dimension_put : (version : ℕ) (seen : Bool) (d : DocDim) → length d.name < 2 ^ 31 → d.len ≤ 4294967295 → not (seen && d.len == 0) ≡ true → (dim version seen).Spells (dimension version d) d
 unfolding dim dimension
 dimension_put version seen d n l r =
-    then_put (name version) _ (spelled_name version d.name) (spelled_number version d.len) d.name (dim_of d) (name_put version d.name n)
-    (then_last _ _ (spelled_number version d.len) d.len (dim_of d) (bounded_put version d.len (omega arith), r) (refl, refl))
+    then_put (name version) _ (spelled_name version d.name) (spelled_number version d.len) d.name d (name_put version d.name n)
+    (then_last _ _ (spelled_number version d.len) d.len d (bounded_put version d.len (omega arith), r) (refl, refl))
 
 -- one that has been seen is counted
 abbrev more : ℕ → NcDim → ℕ
@@ -278,43 +278,36 @@ dim_rule front is_zero h = by_cases (list_any is_record_dim front) is_zero (seen
 abbrev is_zero_dim : DocDim → Bool
 is_zero_dim d = d.len == 0
 
-dims_fit : (version : ℕ) (front : List NcDim) (ds : List DocDim) → All (λ d. length d.name < 2 ^ 31) ds → All (λ d. d.len ≤ 4294967295) ds → count_by is_record_dim front + count_by is_zero_dim ds ≤ 1 → Puts (next_dim version) (dimension version) dim_of front ds
+dims_fit : (version : ℕ) (front : List NcDim) (ds : List DocDim) → All (λ d. length d.name < 2 ^ 31) ds → All (λ d. d.len ≤ 4294967295) ds → count_by is_record_dim front + count_by is_zero_dim ds ≤ 1 → Puts (next_dim version) (dimension version) (λ x. x) front ds
 unfolding Puts
 dims_fit version front [] names lens one = tt
 dims_fit version front (d ∷ ds) names lens one =
     let split : count_by is_zero_dim (d ∷ ds) ≡ (if is_zero_dim d then 1 else 0) + count_by is_zero_dim ds = sum_by-cons (λ (x : DocDim). if is_zero_dim x then 1 else 0) d ds in
-    let pushed : count_by is_record_dim (front ++ dim_of d ∷ []) ≡ count_by is_record_dim front + (if is_zero_dim d then 1 else 0) = sum_by_push (λ (x : NcDim). if is_record_dim x then 1 else 0) front (dim_of d) in (
+    let pushed : count_by is_record_dim (front ++ d ∷ []) ≡ count_by is_record_dim front + (if is_zero_dim d then 1 else 0) = sum_by_push (λ (x : NcDim). if is_record_dim x then 1 else 0) front d in (
       dimension_put version (list_any is_record_dim front) d (All-head (λ (x : DocDim). length x.name < 2 ^ 31) d ds names) (All-head (λ (x : DocDim). x.len ≤ 4294967295) d ds lens) (dim_rule front (is_zero_dim d) (omega (arith, one, split))),
-      dims_fit version (front ++ dim_of d ∷ []) ds (All-tail (λ (x : DocDim). length x.name < 2 ^ 31) d ds names) (All-tail (λ (x : DocDim). x.len ≤ 4294967295) d ds lens) (omega (arith, one, split, pushed)),
+      dims_fit version (front ++ d ∷ []) ds (All-tail (λ (x : DocDim). length x.name < 2 ^ 31) d ds names) (All-tail (λ (x : DocDim). x.len ≤ 4294967295) d ds lens) (omega (arith, one, split, pushed)),
     )
 
--- the lengths of the dimensions are those of the document
-pub lens_same : (ds : List DocDim) → lens_of (map dim_of ds) ≡ map (λ d. d.len) ds
-lens_same [] = refl
-lens_same (d ∷ ds) = ap (λ (l : List ℕ). d.len ∷ l) (lens_same ds)
-
-id_put : (version : ℕ) (ds : List DocDim) (is_first : Bool) (id : ℕ) → length ds < 2 ^ 31 → id < length ds → (is_first || not (slice_index (map (λ d. d.len) ds) id == 0)) ≡ true → (dim_id version (map dim_of ds) is_first).Spells (spelled_number version id) id
+id_put : (version : ℕ) (ds : List DocDim) (is_first : Bool) (id : ℕ) → length ds < 2 ^ 31 → id < length ds → (is_first || not (slice_index (lens_of ds) id == 0)) ≡ true → (dim_id version ds is_first).Spells (spelled_number version id) id
 unfolding dim_id
 id_put version ds is_first id few lt rule =
-    let n : length (map dim_of ds) ≡ length ds = length-map ds dim_of in
-    let r : (is_first || not (slice_index (lens_of (map dim_of ds)) id == 0)) ≡ true = ap (λ (l : List ℕ). is_first || not (slice_index l id == 0)) (lens_same ds) ∙ rule in
-    ((wide_put version id (omega arith), lt-ltb id (length (map dim_of ds)) (omega arith)), r)
+    ((wide_put version id (omega arith), lt-ltb id (length ds) (omega arith)), rule)
 
 not_zero : (n : ℕ) → n ≢ 0 → not (n == 0) ≡ true
 not_zero n h = grind (arith, nat_tests)
 
-ids_behind : (version : ℕ) (ds : List DocDim) (front ids : List ℕ) → length ds < 2 ^ 31 → 0 < length front → All (λ id. id < length ds) ids → All (λ id. slice_index (map (λ d. d.len) ds) id ≢ 0) ids → Puts (next_id version (map dim_of ds)) (spelled_number version) (λ i. i) front ids
+ids_behind : (version : ℕ) (ds : List DocDim) (front ids : List ℕ) → length ds < 2 ^ 31 → 0 < length front → All (λ id. id < length ds) ids → All (λ id. slice_index (lens_of ds) id ≢ 0) ids → Puts (next_id version ds) (spelled_number version) (λ i. i) front ids
 unfolding Puts
 ids_behind version ds front [] few some within apart = tt
 ids_behind version ds front (id ∷ ids) few some within apart =
-    let ne = All-head (λ (i : ℕ). slice_index (map (λ (d : DocDim). d.len) ds) i ≢ 0) id ids apart in
+    let ne = All-head (λ (i : ℕ). slice_index (lens_of ds) i ≢ 0) id ids apart in
     let behind : (length front == 0) ≡ false = grind (arith, nat_tests) in
-    let rule : ((length front == 0) || not (slice_index (map (λ d. d.len) ds) id == 0)) ≡ true = ap (λ (b : Bool). b || not (slice_index (map (λ (d : DocDim). d.len) ds) id == 0)) behind ∙ not_zero _ ne in (
+    let rule : ((length front == 0) || not (slice_index (lens_of ds) id == 0)) ≡ true = ap (λ (b : Bool). b || not (slice_index (lens_of ds) id == 0)) behind ∙ not_zero _ ne in (
       id_put version ds (length front == 0) id few (All-head (λ (i : ℕ). i < length ds) id ids within) rule,
-      ids_behind version ds (front ++ id ∷ []) ids few (omega (arith, length-append front (id ∷ []))) (All-tail (λ (i : ℕ). i < length ds) id ids within) (All-tail (λ (i : ℕ). slice_index (map (λ (d : DocDim). d.len) ds) i ≢ 0) id ids apart),
+      ids_behind version ds (front ++ id ∷ []) ids few (omega (arith, length-append front (id ∷ []))) (All-tail (λ (i : ℕ). i < length ds) id ids within) (All-tail (λ (i : ℕ). slice_index (lens_of ds) i ≢ 0) id ids apart),
     )
 
-ids_fit : (version : ℕ) (ds : List DocDim) (ids : List ℕ) → length ds < 2 ^ 31 → All (λ id. id < length ds) ids → All (λ id. slice_index (map (λ d. d.len) ds) id ≢ 0) (drop 1 ids) → Puts (next_id version (map dim_of ds)) (spelled_number version) (λ i. i) [] ids
+ids_fit : (version : ℕ) (ds : List DocDim) (ids : List ℕ) → length ds < 2 ^ 31 → All (λ id. id < length ds) ids → All (λ id. slice_index (lens_of ds) id ≢ 0) (drop 1 ids) → Puts (next_id version ds) (spelled_number version) (λ i. i) [] ids
 unfolding Puts
 ids_fit version ds [] few within apart = tt
 ids_fit version ds (id ∷ ids) few within apart = (
@@ -322,10 +315,10 @@ ids_fit version ds (id ∷ ids) few within apart = (
   ids_behind version ds (id ∷ []) ids few (omega arith) (All-tail (λ (i : ℕ). i < length ds) id ids within) apart,
 )
 
-ids_put : (version : ℕ) (ds : List DocDim) (ids : List ℕ) → length ids < 2 ^ 31 → Puts (next_id version (map dim_of ds)) (spelled_number version) (λ i. i) [] ids → (dim_ids version (map dim_of ds)).Spells (spelled_number version (length ids) ++ flat_map (spelled_number version) ids) ids
+ids_put : (version : ℕ) (ds : List DocDim) (ids : List ℕ) → length ids < 2 ^ 31 → Puts (next_id version ds) (spelled_number version) (λ i. i) [] ids → (dim_ids version ds).Spells (spelled_number version (length ids) ++ flat_map (spelled_number version) ids) ids
 unfolding dim_ids
 ids_put version ds ids few h =
-    let item = next_id version (map dim_of ds) in
+    let item = next_id version ds in
     let all = subst (λ (r : List ℕ). (items item (length ids) []).Spells (flat_map (spelled_number version) ids) r) (map-id ids) (items_put item (spelled_number version) (λ i. i) [] ids h) in
     then_put (bounded version) _ (spelled_number version (length ids)) (flat_map (spelled_number version) ids) (length ids) ids (bounded_put version (length ids) (omega arith)) all
 
@@ -341,7 +334,7 @@ pub record Fits (doc : NcDoc) (v : DocVar) : Type 0 where
   pub apart : All (λ id. slice_index (map (λ d. d.len) doc.dims) id ≢ 0) (drop 1 v.dims)
   pub type : is_type (version_of doc) (type_number (kind_of v.values)) ≡ true
 
-variable_put : (doc : NcDoc) (begin : ℕ) (v : DocVar) → length doc.dims < 2 ^ 31 → Fits doc v → begin < 2 ^ 63 → (var (version_of doc) (map dim_of doc.dims)).Spells (variable doc begin v) (var_of begin v)
+variable_put : (doc : NcDoc) (begin : ℕ) (v : DocVar) → length doc.dims < 2 ^ 31 → Fits doc v → begin < 2 ^ 63 → (var (version_of doc) doc.dims).Spells (variable doc begin v) (var_of begin v)
 unfolding var variable shape
 variable_put doc begin v few h at =
     let version = version_of doc in
@@ -350,21 +343,21 @@ variable_put doc begin v few h at =
     let i = flat_map (spelled_number version) v.dims in
     let t = tagged version 12 0 [] in
     let c = code (type_number (kind_of v.values)) in
-    let z = vsize version (rounded (piece_len doc v)) in
+    let z = vsize version (rounded (doc_piece_len doc v)) in
     let o = offset version begin in
     let regrouped : (a ++ n ++ i) ++ t ++ c ++ z ++ o ≡ a ++ ((n ++ i) ++ (t ++ (c ++ (z ++ o)))) =
     append_assoc ((a ++ n ++ i) ++ t ++ c) z o ∙ append_assoc ((a ++ n ++ i) ++ t) c (z ++ o) ∙ append_assoc (a ++ n ++ i) t (c ++ (z ++ o))
     ∙ ap (λ (s : List ℕ). s ++ (t ++ (c ++ (z ++ o)))) (append_assoc a n i) ∙ append_assoc a (n ++ i) (t ++ (c ++ (z ++ o))) in
-    subst (λ (s : List ℕ). (var version (map dim_of doc.dims)).Spells s (var_of begin v)) (sym regrouped)
+    subst (λ (s : List ℕ). (var version doc.dims).Spells s (var_of begin v)) (sym regrouped)
     (then_put (name version) _ a _ v.name (var_of begin v) (name_put version v.name h.name)
-    (then_put (dim_ids version (map dim_of doc.dims)) _ (n ++ i) _ v.dims (var_of begin v) (ids_put version doc.dims v.dims h.ids (ids_fit version doc.dims v.dims few h.within h.apart))
+    (then_put (dim_ids version doc.dims) _ (n ++ i) _ v.dims (var_of begin v) (ids_put version doc.dims v.dims h.ids (ids_fit version doc.dims v.dims few h.within h.apart))
     (then_put (att_list version) _ t _ [] (var_of begin v) (no_atts version)
     (then_put (nc_type version) _ c _ (kind_of v.values) (var_of begin v) (type_put version (kind_of v.values) h.type)
-    (then_put (number (width version)) _ z o _ (var_of begin v) (vsize_put version (rounded (piece_len doc v)))
+    (then_put (number (width version)) _ z o _ (var_of begin v) (vsize_put version (rounded (doc_piece_len doc v)))
     (then_last (number (begin_width version)) _ o begin (var_of begin v) (offset_put doc begin at) (refl, refl)))))))
 
 vars_put : (doc : NcDoc) (front : List NcVar) (fixed record_place : ℕ) (vs : List DocVar) → length doc.dims < 2 ^ 31 → All (Fits doc) vs → fixed + sum_by (fixed_len doc) vs < 2 ^ 63 → record_place + sum_by (first_len doc) vs < 2 ^ 63
-    → (items (λ _. var (version_of doc) (map dim_of doc.dims)) (length vs) front).Spells (variables doc fixed record_place vs) (front ++ vars_of doc fixed record_place vs)
+    → (items (λ _. var (version_of doc) doc.dims) (length vs) front).Spells (variables doc fixed record_place vs) (front ++ vars_of doc fixed record_place vs)
 unfolding items
 vars_put doc front fixed record_place [] few h one two = (refl, sym (append-nil front))
 vars_put doc front fixed record_place (v ∷ vs) few h one two =
@@ -376,25 +369,25 @@ vars_put doc front fixed record_place (v ∷ vs) few h one two =
     let rest = vars_put doc (front ++ x ∷ []) (fixed + fixed_len doc v) (record_place + first_len doc v) vs few (All-tail (Fits doc) v vs h) sums.0 sums.1 in
     let after = vars_of doc (fixed + fixed_len doc v) (record_place + first_len doc v) vs in
     let same : (front ++ x ∷ []) ++ after ≡ front ++ x ∷ after = append_assoc front (x ∷ []) after in
-    then_put (var (version_of doc) (map dim_of doc.dims)) (λ y. items (λ _. var (version_of doc) (map dim_of doc.dims)) (length vs) (front ++ y ∷ [])) (variable doc begin v) (variables doc (fixed + fixed_len doc v) (record_place + first_len doc v) vs) x (front ++ x ∷ after) here
-    (subst (λ (r : List NcVar). (items (λ _. var (version_of doc) (map dim_of doc.dims)) (length vs) (front ++ x ∷ [])).Spells (variables doc (fixed + fixed_len doc v) (record_place + first_len doc v) vs) r) same rest)
+    then_put (var (version_of doc) doc.dims) (λ y. items (λ _. var (version_of doc) doc.dims) (length vs) (front ++ y ∷ [])) (variable doc begin v) (variables doc (fixed + fixed_len doc v) (record_place + first_len doc v) vs) x (front ++ x ∷ after) here
+    (subst (λ (r : List NcVar). (items (λ _. var (version_of doc) doc.dims) (length vs) (front ++ x ∷ [])).Spells (variables doc (fixed + fixed_len doc v) (record_place + first_len doc v) vs) r) same rest)
 
 -- The whole header.
 
 -- where a variable is Long, the version is 5
-types_fit : (doc : NcDoc) (vs : List DocVar) → (list_any is_long doc.vars ≡ true) ⊎ (list_any is_long vs ≡ false) → AllByRecursion (λ v. is_type (version_of doc) (type_number (kind_of v.values)) ≡ true) vs
+types_fit : (doc : NcDoc) (vs : List DocVar) → (list_any has_longs doc.vars ≡ true) ⊎ (list_any has_longs vs ≡ false) → AllByRecursion (λ v. is_type (version_of doc) (type_number (kind_of v.values)) ≡ true) vs
 unfolding version_of
 types_fit doc [] h = tt
 types_fit doc (v ∷ vs) h =
     elim h [
       | inl e ↦ (values_known (version_of doc) v.values (inl (ap (λ (b : Bool). if b then 5 else 2) e)), types_fit doc vs (inl e))
-      | inr e ↦ let k = either_false (is_long v) (list_any is_long vs) e in (values_known (version_of doc) v.values (inr k.0), types_fit doc vs (inr k.1))
+      | inr e ↦ let k = either_false (has_longs v) (list_any has_longs vs) e in (values_known (version_of doc) v.values (inr k.0), types_fit doc vs (inr k.1))
     ]
 
 all_types_fit : (doc : NcDoc) → All (λ v. is_type (version_of doc) (type_number (kind_of v.values)) ≡ true) doc.vars
 all_types_fit doc =
     All-from_recursion (λ (v : DocVar). is_type (version_of doc) (type_number (kind_of v.values)) ≡ true) doc.vars
-    (types_fit doc doc.vars (either (list_any is_long doc.vars)))
+    (types_fit doc doc.vars (either (list_any has_longs doc.vars)))
 
 vars_fit : (doc : NcDoc) → IsWellFormed doc → All (Fits doc) doc.vars
 vars_fit doc h k d lt =
@@ -417,13 +410,16 @@ doc_spelled doc h =
     let d = tagged version 10 (length doc.dims) (flat_map (dimension version) doc.dims) in
     let a = tagged version 12 (length doc.atts) (flat_map (attribute version) doc.atts) in
     let v = tagged version 11 (length doc.vars) (variables doc begin records_at doc.vars) in
-    let dims = map dim_of doc.dims in
+    let dims = doc.dims in
     let atts = map att_of doc.atts in
     let vars = vars_of doc begin records_at doc.vars in
     let m : List ℕ = 0x43 ∷ 0x44 ∷ 0x46 ∷ version ∷ [] in
     let regrouped : m ++ r ++ d ++ a ++ v ≡ m ++ (r ++ (d ++ (a ++ v))) = append_assoc (m ++ r ++ d) a v ∙ append_assoc (m ++ r) d (a ++ v) ∙ append_assoc m r (d ++ (a ++ v)) in
     let len = length_file_of doc (has_its_values doc h) in
     let first = first_within doc in
+    let few : count_by is_zero_dim doc.dims ≤ 1 = h.one_record_dim in
+    let dims_put = items_put (next_dim version) (dimension version) (λ x. x) [] doc.dims (dims_fit version [] doc.dims short.dim_names h.lens (omega (arith, few))) in
+    let dim_items = subst (λ (l : List NcDim). (items (next_dim version) (length dims) []).Spells (flat_map (dimension version) dims) l) (map-id dims) dims_put in
     record {
       version = version;
       rest = r ++ (d ++ (a ++ v));
@@ -431,7 +427,7 @@ doc_spelled doc h =
       known = known_version doc;
       is_body =
           then_put (numrecs version) _ r _ doc.records (fields_of doc) (numrecs_put version doc.records h.records)
-          (then_put (dim_list version) _ d _ dims (fields_of doc) (listed_put version 10 (length doc.dims) (next_dim version) (flat_map (dimension version) doc.dims) dims (omega arith) short.dims (λ z. ap (flat_map (dimension version)) (none_of doc.dims z)) (items_put (next_dim version) (dimension version) dim_of [] doc.dims (dims_fit version [] doc.dims short.dim_names h.lens (let one : count_by is_zero_dim doc.dims ≤ 1 = h.one_record_dim in omega arith))))
+          (then_put (dim_list version) _ d _ dims (fields_of doc) (listed_put version 10 (length doc.dims) (next_dim version) (flat_map (dimension version) doc.dims) dims (omega arith) short.dims (λ z. ap (flat_map (dimension version)) (none_of doc.dims z)) dim_items)
           (then_put (att_list version) _ a _ atts (fields_of doc) (listed_put version 12 (length doc.atts) (λ front. att version) (flat_map (attribute version) doc.atts) atts (omega arith) short.atts (λ z. ap (flat_map (attribute version)) (none_of doc.atts z)) (items_put (λ front. att version) (attribute version) att_of [] doc.atts (atts_fit version [] doc.atts short.att_names)))
           (then_last (var_list version dims) _ v vars (fields_of doc) (listed_put version 11 (length doc.vars) (λ front. var version dims) (variables doc begin records_at doc.vars) vars (omega arith) short.vars (λ z. ap (variables doc begin records_at) (none_of doc.vars z)) (vars_put doc [] begin records_at doc.vars short.dims (vars_fit doc h) (omega (arith, h.file, len)) (omega (arith, h.file, len, first)))) (refl, refl))));
     }

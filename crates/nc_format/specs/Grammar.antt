@@ -1,12 +1,12 @@
 -- The grammar of a header, by the productions of the netCDF classic format specification; version 5 by CDF-5.
 -- The bound on counts and lengths, and what is let through, are this project's own. Numbers are read without sign.
-use Rattle.std.specs.Prelude.{ℕ, ◌*◌, List, [], length, map, Bool, nat_lt, nat_le, ◌==◌, ◌&&◌, ◌||◌, not, if◌then◌else◌, slice_index}
+use Rattle.std.specs.Prelude.{ℕ, ◌*◌, List, [], length, Bool, nat_lt, nat_le, ◌==◌, ◌&&◌, ◌||◌, not, if◌then◌else◌, slice_index}
 use Rattle.std.specs.List.{list_any}
 use Rattle.nc_write.specs.declared.NcKind.{NcKind}
-use Rattle.nc_write.specs.declared.NcKind.TheVariants.{Byte, Char, Short, Int, Float, Double, UByte, UShort, UInt, Int64, UInt64}
-use Rattle.nc_write.specs.Kinds.{size_of}
-use Rattle.nc_write.specs.Widths.{width, begin_width}
-use Rattle.nc_format.specs.declared.NcDim.{NcDim}
+use Rattle.nc_write.specs.Kinds.{kind_numbered, size_of}
+use Rattle.nc_write.specs.Widths.{dimension_tag, variable_tag, attribute_tag, width, begin_width}
+pub use Rattle.nc_write.specs.Extents.{lens_of}
+use Rattle.nc_write.specs.declared.DocDim.{DocDim as NcDim}
 use Rattle.nc_format.specs.declared.NcAtt.{NcAtt}
 use Rattle.nc_format.specs.declared.NcVar.{NcVar}
 use Rattle.nc_format.specs.declared.NcFile.{NcFile}
@@ -44,12 +44,6 @@ listed version own item = do
 abbrev pub is_type : ℕ → ℕ → Bool
 is_type version t = nat_le 1 t && nat_le t (if version == 5 then 11 else 6)
 
--- the type that a number of 1 to 11 names
-unfoldable pub kind_numbered : ℕ → NcKind
-kind_numbered t =
-    if t == 1 then Byte else (if t == 2 then Char else (if t == 3 then Short else (if t == 4 then Int else (if t == 5 then Float else (if t == 6 then Double else (
-    if t == 7 then UByte else (if t == 8 then UShort else (if t == 9 then UInt else (if t == 10 then Int64 else UInt64)))))))))
-
 -- a type, by its number
 unfoldable pub nc_type : ℕ → Part NcKind
 nc_type version = do
@@ -83,7 +77,7 @@ next_dim version front = dim version (list_any is_record_dim front)
 
 -- the dimensions, under the tag 10
 unfoldable pub dim_list : ℕ → Part (List NcDim)
-dim_list version = listed version 10 (next_dim version)
+dim_list version = listed version dimension_tag (next_dim version)
 
 -- an attribute: its name, its type, and so many values
 unfoldable pub att : ℕ → Part NcAtt
@@ -96,11 +90,7 @@ att version = do
 
 -- the attributes of a file or of a variable, under the tag 12
 unfoldable pub att_list : ℕ → Part (List NcAtt)
-att_list version = listed version 12 (λ front. att version)
-
--- the lengths of all dimensions
-abbrev pub lens_of : List NcDim → List ℕ
-lens_of dims = map (λ d. d.len) dims
+att_list version = listed version attribute_tag (λ front. att version)
 
 -- the number of a dimension, from 0; the record dimension stands nowhere but first
 unfoldable pub dim_id : ℕ → List NcDim → Bool → Part ℕ
@@ -129,7 +119,7 @@ var version dims = do
 
 -- the variables, under the tag 11
 unfoldable pub var_list : ℕ → List NcDim → Part (List NcVar)
-var_list version dims = listed version 11 (λ front. var version dims)
+var_list version dims = listed version variable_tag (λ front. var version dims)
 
 -- what stands behind the magic
 unfoldable pub body : ℕ → Part NcFile

@@ -7,7 +7,7 @@ use Rattle.byteorder.specs.Endian.{big_number}
 use Rattle.nc_write.specs.declared.NcKind.{NcKind}
 use Rattle.nc_write.specs.declared.NcKind.TheVariants.{Byte, Char, Short, Int, Float, Double, UByte, UShort, UInt, Int64, UInt64}
 use Rattle.nc_write.specs.Kinds.{size_of, bits_of}
-use Rattle.nc_format.specs.declared.NcDim.{NcDim}
+use Rattle.nc_write.specs.declared.DocDim.{DocDim as NcDim}
 use Rattle.nc_format.specs.declared.NcAtt.{NcAtt}
 use Rattle.nc_format.specs.declared.NcVar.{NcVar}
 

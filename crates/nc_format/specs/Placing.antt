@@ -1,33 +1,26 @@
 -- Where the values of variables stand, and which of them a file of some length holds (netCDF classic format
 -- specification, on the computation of variable offsets).
-use Rattle.std.specs.Prelude.{◌≡◌, ℕ, ◌+◌, ◌-◌, ◌*◌, List, map, Bool, nat_lt, ◌==◌, ◌&&◌, not, if◌then◌else◌}
-use Rattle.std.specs.List.{count_by, sum_by}
-use Rattle.nc_write.specs.Kinds.{size_of}
-use Rattle.nc_write.specs.Extents.{has_records, piece_count, share_of}
-use Rattle.nc_format.specs.declared.NcDim.{NcDim}
+use Rattle.std.specs.Prelude.{◌≡◌, ℕ, ◌+◌, ◌-◌, ◌*◌, List, map, Bool, nat_lt, ◌==◌, ◌&&◌, if◌then◌else◌}
+use Rattle.nc_write.specs.Extents.{lens_of, has_records, piece_len, piece_total, step_of}
+use Rattle.nc_write.specs.declared.DocDim.{DocDim as NcDim}
 use Rattle.nc_format.specs.declared.NcVar.{NcVar}
 use Rattle.nc_format.specs.declared.NcFile.{NcFile}
-use Rattle.nc_format.specs.Grammar.{lens_of}
 
--- the first dimension is the record dimension
+-- a variable over the record dimension
 abbrev pub is_record_var : List NcDim → NcVar → Bool
 is_record_var dims v = has_records (lens_of dims) v.dims
 
--- the bytes of all values, or of those of one record
-unfoldable pub piece_len : List NcDim → NcVar → ℕ
-piece_len dims v = size_of v.kind * piece_count (lens_of dims) v.dims
+-- the bytes of one piece of its values: of all of them, or of those of one record
+abbrev pub var_piece_len : List NcDim → NcVar → ℕ
+var_piece_len dims v = piece_len (lens_of dims) v.kind v.dims
 
--- what a variable adds to the step from one record to the next
-unfoldable pub share : List NcDim → Bool → NcVar → ℕ
-share dims several v = share_of several (is_record_var dims v) (piece_len dims v)
+-- the bytes from one record to the next
+abbrev pub step_from : List NcDim → List NcVar → ℕ
+step_from dims vars = step_of (is_record_var dims) (var_piece_len dims) vars
 
--- exactly one record variable: its records are not padded
-unfoldable pub step_of : List NcDim → List NcVar → ℕ
-step_of dims vars = sum_by (share dims (not (count_by (is_record_var dims) vars == 1))) vars
-
--- one piece, or as many as there are records
+-- how many pieces the values stand in
 abbrev pub parts_of : ℕ → List NcDim → NcVar → ℕ
-parts_of records dims v = if is_record_var dims v then records else 1
+parts_of records dims v = piece_total records (is_record_var dims v)
 
 -- the bytes of a piece; 0 where there is none
 abbrev pub part_of : ℕ → ℕ → ℕ
@@ -41,13 +34,13 @@ own_step parts step = if nat_lt 1 parts then step else 0
 unfoldable pub placed : ℕ → List NcDim → ℕ → NcVar → NcVar
 placed records dims step v = record v {
   parts = parts_of records dims v;
-  part = part_of (parts_of records dims v) (piece_len dims v);
+  part = part_of (parts_of records dims v) (var_piece_len dims v);
   step = own_step (parts_of records dims v) step;
 }
 
 -- the variables of a header with the places of their values
 abbrev pub placed_vars : NcFile → List NcVar
-placed_vars f = map (placed f.records f.dims (step_of f.dims f.vars)) f.vars
+placed_vars f = map (placed f.records f.dims (step_from f.dims f.vars)) f.vars
 
 -- a header with the places of all values
 abbrev pub with_places : NcFile → NcFile
@@ -56,8 +49,8 @@ with_places f = record f { vars = placed_vars f }
 -- the places of a variable's values are those that its header tells
 pub record IsPlaced (f : NcFile) (v : NcVar) : Type 0 where
   pub parts : v.parts ≡ parts_of f.records f.dims v
-  pub part : v.part ≡ part_of v.parts (piece_len f.dims v)
-  pub step : v.step ≡ own_step v.parts (step_of f.dims f.vars)
+  pub part : v.part ≡ part_of v.parts (var_piece_len f.dims v)
+  pub step : v.step ≡ own_step v.parts (step_from f.dims f.vars)
 
 -- where the last piece ends
 abbrev pub end_of : NcVar → ℕ

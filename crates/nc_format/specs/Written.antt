@@ -2,22 +2,16 @@
 use Rattle.std.specs.Prelude.{◌≡◌, ◌⊎◌, ℕ, ◌+◌, List, [], ◌∷◌, map, All, Option, Some, None, FitsSigned}
 use Rattle.nc_write.specs.declared.NcKind.TheVariants as kinds
 use Rattle.nc_write.specs.declared.NcDoc.{NcDoc}
-use Rattle.nc_write.specs.declared.DocDim.{DocDim}
 use Rattle.nc_write.specs.declared.DocAtt.{DocAtt}
 use Rattle.nc_write.specs.declared.DocVar.{DocVar}
 use Rattle.nc_write.specs.Kinds.{bits_of, value}
 use Rattle.nc_write.specs.File.{kind_of, numbers_of, version_of, fixed_len, first_len, fixed_total, begin_of, header_len}
-use Rattle.nc_format.specs.declared.NcDim.{NcDim}
 use Rattle.nc_format.specs.declared.NcAtt.{NcAtt}
 use Rattle.nc_format.specs.declared.NcVar.{NcVar}
 use Rattle.nc_format.specs.declared.NcFile.{NcFile}
 use Rattle.nc_format.specs.declared.fault.NcFault.{NcFault}
 use Rattle.nc_format.specs.declared.fault.NcFault.TheVariants.{DataOutside}
 use Rattle.nc_format.specs.Placing.{with_places}
-
--- a dimension as it is read
-abbrev pub dim_of : DocDim → NcDim
-dim_of d = record { name = d.name; len = d.len }
 
 -- an attribute as it is read: one INT
 abbrev pub att_of : DocAtt → NcAtt
@@ -37,7 +31,7 @@ abbrev pub fields_of : NcDoc → NcFile
 fields_of doc = record {
   version = version_of doc;
   records = doc.records;
-  dims = map dim_of doc.dims;
+  dims = doc.dims;
   atts = map att_of doc.atts;
   vars = vars_of doc (header_len doc) (header_len doc + fixed_total doc) doc.vars;
 }
@@ -49,7 +43,7 @@ header_of doc = with_places (fields_of doc)
 -- what a document and a header have in common
 pub record IsOfDoc (doc : NcDoc) (f : NcFile) : Type 0 where
   pub records : f.records ≡ doc.records
-  pub dims : f.dims ≡ map dim_of doc.dims
+  pub dims : f.dims ≡ doc.dims
   pub atts : f.atts ≡ map att_of doc.atts
   pub names : map (λ v. v.name) f.vars ≡ map (λ v. v.name) doc.vars
   pub shapes : map (λ v. v.dims) f.vars ≡ map (λ v. v.dims) doc.vars

@@ -3,10 +3,12 @@ ghost use Rattle.std.specs.Prelude.{◌≡◌, ◌==◌, ◌≤◌, ◌<◌, ◌
 ghost use Rattle.nc_write.specs.Widths.{width, begin_width};
 ghost use Rattle.nc_format.specs.Answers.{Answers};
 ghost use Rattle.nc_format.specs.Parts.{field, number, padded};
-ghost use Rattle.nc_format.specs.Grammar.{bounded, name, tag, count, kind_numbered, nc_type, numrecs, all_ff};
+ghost use Rattle.nc_format.specs.Grammar.{bounded, name, tag, count, nc_type, numrecs, all_ff};
 
 use crate::NcFault;
 use byteorder::{BigEndian, ByteOrder};
+use nc_write::extents::rounded;
+use nc_write::kinds::kind_numbered;
 use nc_write::{Name, NcKind};
 use std::alloc::Global;
 
@@ -25,7 +27,8 @@ pub struct Cursor<'a> {
 impl<'a> Cursor<'a> {
     #[tactic(auto, unfolding(crate::specs::Parts::field))]
     pub fn field(&mut self, len: u64) -> Result<&'a [u8], NcFault>
-        ensures read { Answers (λ f. (f.now, self.new.at)) result ((field len).read self.old.bytes.now self.old.at) }
+        ensures read { Answers (λ f. (f.now, self.new.at)) result
+            ((field len).read self.old.bytes.now self.old.at) }
         ensures bytes { self.new.bytes ≡ self.old.bytes }
         ensures version { self.new.version ≡ self.old.version }
         ensures len { IfOk result (λ f. length f.now ≡ len) }
@@ -43,7 +46,8 @@ impl<'a> Cursor<'a> {
 
     #[tactic(auto, unfolding(crate::specs::Parts::number))]
     pub fn number4(&mut self) -> Result<u32, NcFault>
-        ensures read { Answers (λ n. (n, self.new.at)) result ((number 4).read self.old.bytes.now self.old.at) }
+        ensures read { Answers (λ n. (n, self.new.at)) result
+            ((number 4).read self.old.bytes.now self.old.at) }
         ensures bytes { self.new.bytes ≡ self.old.bytes }
         ensures version { self.new.version ≡ self.old.version }
     {
@@ -53,7 +57,8 @@ impl<'a> Cursor<'a> {
 
     #[tactic(auto, unfolding(crate::specs::Parts::number))]
     pub fn number8(&mut self) -> Result<u64, NcFault>
-        ensures read { Answers (λ n. (n, self.new.at)) result ((number 8).read self.old.bytes.now self.old.at) }
+        ensures read { Answers (λ n. (n, self.new.at)) result
+            ((number 8).read self.old.bytes.now self.old.at) }
         ensures bytes { self.new.bytes ≡ self.old.bytes }
         ensures version { self.new.version ≡ self.old.version }
     {
@@ -64,7 +69,8 @@ impl<'a> Cursor<'a> {
     /// A number of records, a count, a length, the number of a dimension, or a vsize.
     #[tactic(auto, unfolding(nc_write::specs::Widths::width))]
     pub fn wide(&mut self) -> Result<u64, NcFault>
-        ensures read { Answers (λ n. (n, self.new.at)) result ((number (width self.old.version)).read self.old.bytes.now self.old.at) }
+        ensures read { Answers (λ n. (n, self.new.at)) result
+            ((number (width self.old.version)).read self.old.bytes.now self.old.at) }
         ensures bytes { self.new.bytes ≡ self.old.bytes }
         ensures version { self.new.version ≡ self.old.version }
     {
@@ -77,7 +83,8 @@ impl<'a> Cursor<'a> {
 
     #[tactic(auto, unfolding(nc_write::specs::Widths::begin_width))]
     pub fn begin(&mut self) -> Result<u64, NcFault>
-        ensures read { Answers (λ n. (n, self.new.at)) result ((number (begin_width self.old.version)).read self.old.bytes.now self.old.at) }
+        ensures read { Answers (λ n. (n, self.new.at)) result
+            ((number (begin_width self.old.version)).read self.old.bytes.now self.old.at) }
         ensures bytes { self.new.bytes ≡ self.old.bytes }
         ensures version { self.new.version ≡ self.old.version }
     {
@@ -90,7 +97,8 @@ impl<'a> Cursor<'a> {
 
     #[tactic(auto, unfolding(crate::specs::Grammar::bounded))]
     pub fn bounded(&mut self) -> Result<u32, NcFault>
-        ensures read { Answers (λ n. (n, self.new.at)) result ((bounded self.old.version).read self.old.bytes.now self.old.at) }
+        ensures read { Answers (λ n. (n, self.new.at)) result
+            ((bounded self.old.version).read self.old.bytes.now self.old.at) }
         ensures bytes { self.new.bytes ≡ self.old.bytes }
         ensures version { self.new.version ≡ self.old.version }
     {
@@ -105,18 +113,20 @@ impl<'a> Cursor<'a> {
     #[tactic(auto, unfolding(crate::specs::Parts::padded))]
     pub fn padded(&mut self, len: u64) -> Result<&'a [u8], NcFault>
         requires { len < 2 ^ 40 }
-        ensures read { Answers (λ f. (f.now, self.new.at)) result ((padded len).read self.old.bytes.now self.old.at) }
+        ensures read { Answers (λ f. (f.now, self.new.at)) result
+            ((padded len).read self.old.bytes.now self.old.at) }
         ensures bytes { self.new.bytes ≡ self.old.bytes }
         ensures version { self.new.version ≡ self.old.version }
         ensures len { IfOk result (λ f. length f.now ≡ len) }
     {
-        let field = self.field(len + (4 - len % 4) % 4)?;
+        let field = self.field(rounded(len))?;
         Ok(&field[..len as usize])
     }
 
     #[tactic(auto, unfolding(crate::specs::Grammar::name))]
     pub fn name(&mut self, alloc: Global) -> Result<Name, NcFault>
-        ensures read { Answers (λ x. (x, self.new.at)) result ((name self.old.version).read self.old.bytes.now self.old.at) }
+        ensures read { Answers (λ x. (x, self.new.at)) result
+            ((name self.old.version).read self.old.bytes.now self.old.at) }
         ensures bytes { self.new.bytes ≡ self.old.bytes }
         ensures version { self.new.version ≡ self.old.version }
     {
@@ -130,7 +140,8 @@ impl<'a> Cursor<'a> {
     /// The tag of a list, its own or 0.
     #[tactic(auto, unfolding(crate::specs::Grammar::tag))]
     pub fn tag(&mut self, own: u32) -> Result<u32, NcFault>
-        ensures read { Answers (λ t. (t, self.new.at)) result ((tag own).read self.old.bytes.now self.old.at) }
+        ensures read { Answers (λ t. (t, self.new.at)) result
+            ((tag own).read self.old.bytes.now self.old.at) }
         ensures bytes { self.new.bytes ≡ self.old.bytes }
         ensures version { self.new.version ≡ self.old.version }
     {
@@ -145,7 +156,8 @@ impl<'a> Cursor<'a> {
     /// The count behind a tag.
     #[tactic(auto, unfolding(crate::specs::Grammar::count))]
     pub fn count(&mut self, own: u32, tag: u32) -> Result<u32, NcFault>
-        ensures read { Answers (λ n. (n, self.new.at)) result ((count self.old.version own tag).read self.old.bytes.now self.old.at) }
+        ensures read { Answers (λ n. (n, self.new.at)) result
+            ((count self.old.version own tag).read self.old.bytes.now self.old.at) }
         ensures bytes { self.new.bytes ≡ self.old.bytes }
         ensures version { self.new.version ≡ self.old.version }
     {
@@ -159,7 +171,8 @@ impl<'a> Cursor<'a> {
 
     #[tactic(auto, unfolding(crate::specs::Grammar::nc_type))]
     pub fn kind(&mut self) -> Result<NcKind, NcFault>
-        ensures read { Answers (λ k. (k, self.new.at)) result ((nc_type self.old.version).read self.old.bytes.now self.old.at) }
+        ensures read { Answers (λ k. (k, self.new.at)) result
+            ((nc_type self.old.version).read self.old.bytes.now self.old.at) }
         ensures bytes { self.new.bytes ≡ self.old.bytes }
         ensures version { self.new.version ≡ self.old.version }
     {
@@ -174,7 +187,8 @@ impl<'a> Cursor<'a> {
 
     #[tactic(auto, unfolding(crate::specs::Grammar::numrecs))]
     pub fn records(&mut self) -> Result<u32, NcFault>
-        ensures read { Answers (λ n. (n, self.new.at)) result ((numrecs self.old.version).read self.old.bytes.now self.old.at) }
+        ensures read { Answers (λ n. (n, self.new.at)) result
+            ((numrecs self.old.version).read self.old.bytes.now self.old.at) }
         ensures bytes { self.new.bytes ≡ self.old.bytes }
         ensures version { self.new.version ≡ self.old.version }
     {
@@ -198,24 +212,5 @@ fn all_ff(version: u8) -> u64
         u64::MAX
     } else {
         u64::from(u32::MAX)
-    }
-}
-
-#[tactic(auto, unfolding(crate::specs::Grammar::kind_numbered))]
-fn kind_numbered(number: u32) -> NcKind
-    ensures { result ≡ kind_numbered number }
-{
-    match number {
-        1 => NcKind::Byte,
-        2 => NcKind::Char,
-        3 => NcKind::Short,
-        4 => NcKind::Int,
-        5 => NcKind::Float,
-        6 => NcKind::Double,
-        7 => NcKind::UByte,
-        8 => NcKind::UShort,
-        9 => NcKind::UInt,
-        10 => NcKind::Int64,
-        _ => NcKind::UInt64,
     }
 }

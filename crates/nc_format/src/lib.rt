@@ -15,18 +15,12 @@ mod values;
 
 pub use fault::NcFault;
 pub use laws::{law_cut, law_first_fault, law_prefix, law_written};
-pub use lists::{Bytes, NcAtts, NcDims, NcVars};
+pub use lists::{Bytes, NcAtts, NcVars};
 pub use lookup::{find_dim, find_var, int_att};
 use nc_write::{DimIds, Name, NcKind};
+pub use nc_write::{DocDim as NcDim, DocDims as NcDims};
 pub use reading::read_header;
 pub use values::{gather, int_values, is_int, is_long, long_values};
-
-/// A dimension: its name and its length. The one of length 0 is the record dimension.
-#[derive(Drop)]
-pub struct NcDim {
-    pub name: Name,
-    pub len: u32,
-}
 
 /// An attribute: `count` values of a type, spelled by `bytes`.
 #[derive(Drop)]

@@ -1,39 +1,22 @@
 // Dimensions, attributes and variables, one behind another. Lists grow as items are read, so that a
 // count takes no memory by itself.
-ghost use Rattle.std.specs.Prelude.{◌≡◌, ◌≤◌, ◌<◌, ◌^◌, ℕ, [], length, IfOk};
-ghost use Rattle.nc_write.specs.Kinds.{size_of};
+ghost use Rattle.std.specs.Prelude.{◌≡◌, ◌<◌, ◌^◌, ℕ, [], length, IfOk};
 ghost use Rattle.nc_format.specs.Answers.{Answers};
 ghost use Rattle.nc_format.specs.Parts.{items};
 ghost use Rattle.nc_format.specs.Grammar.{dim, next_dim, dim_list, att, att_list, dim_id, next_id, dim_ids, var, var_list, body};
 
 use crate::cursor::Cursor;
 use crate::{Bytes, NcAtt, NcAtts, NcDim, NcDims, NcFault, NcFile, NcVar, NcVars};
-use nc_write::{DimIds, NcKind};
+use nc_write::DimIds;
+use nc_write::kinds::size_of;
+use nc_write::tags::{ATTRIBUTES, DIMENSIONS, VARIABLES};
 use std::alloc::Global;
-
-const DIMENSIONS: u32 = 10;
-
-const VARIABLES: u32 = 11;
-
-const ATTRIBUTES: u32 = 12;
-
-/// The bytes of one value.
-pub fn size_of(kind: NcKind) -> u64
-    ensures is { result ≡ size_of kind }
-    ensures small { result ≤ 8 }
-{
-    match kind {
-        NcKind::Byte | NcKind::Char | NcKind::UByte => 1,
-        NcKind::Short | NcKind::UShort => 2,
-        NcKind::Int | NcKind::Float | NcKind::UInt => 4,
-        NcKind::Double | NcKind::Int64 | NcKind::UInt64 => 8,
-    }
-}
 
 impl<'a> Cursor<'a> {
     #[tactic(auto, unfolding(crate::specs::Grammar::dim))]
     fn dim(&mut self, alloc: Global, seen: bool) -> Result<NcDim, NcFault>
-        ensures read { Answers (λ x. (x, self.new.at)) result ((dim self.old.version seen).read self.old.bytes.now self.old.at) }
+        ensures read { Answers (λ x. (x, self.new.at)) result
+            ((dim self.old.version seen).read self.old.bytes.now self.old.at) }
         ensures bytes { self.new.bytes ≡ self.old.bytes }
         ensures version { self.new.version ≡ self.old.version }
     {
@@ -48,7 +31,8 @@ impl<'a> Cursor<'a> {
 
     #[tactic(auto, unfolding(crate::specs::Grammar::att))]
     fn att(&mut self, alloc: Global) -> Result<NcAtt, NcFault>
-        ensures read { Answers (λ x. (x, self.new.at)) result ((att self.old.version).read self.old.bytes.now self.old.at) }
+        ensures read { Answers (λ x. (x, self.new.at)) result
+            ((att self.old.version).read self.old.bytes.now self.old.at) }
         ensures bytes { self.new.bytes ≡ self.old.bytes }
         ensures version { self.new.version ≡ self.old.version }
     {
@@ -69,7 +53,8 @@ impl<'a> Cursor<'a> {
 
     fn some_dims(&mut self, alloc: Global, count: u32) -> Result<NcDims, NcFault>
         ensures few { IfOk result (λ x. length x < 2 ^ 32) }
-        ensures read { Answers (λ x. (x, self.new.at)) result ((items (next_dim self.old.version) count []).read self.old.bytes.now self.old.at) }
+        ensures read { Answers (λ x. (x, self.new.at)) result
+            ((items (next_dim self.old.version) count []).read self.old.bytes.now self.old.at) }
         ensures bytes { self.new.bytes ≡ self.old.bytes }
         ensures version { self.new.version ≡ self.old.version }
     {
@@ -84,7 +69,8 @@ impl<'a> Cursor<'a> {
     }
 
     fn some_atts(&mut self, alloc: Global, count: u32) -> Result<NcAtts, NcFault>
-        ensures read { Answers (λ x. (x, self.new.at)) result ((items (λ _. att self.old.version) count []).read self.old.bytes.now self.old.at) }
+        ensures read { Answers (λ x. (x, self.new.at)) result
+            ((items (λ _. att self.old.version) count []).read self.old.bytes.now self.old.at) }
         ensures bytes { self.new.bytes ≡ self.old.bytes }
         ensures version { self.new.version ≡ self.old.version }
     {
@@ -99,7 +85,8 @@ impl<'a> Cursor<'a> {
     #[tactic(auto, unfolding(crate::specs::Grammar::dim_list, crate::specs::Grammar::listed))]
     pub fn dims(&mut self, alloc: Global) -> Result<NcDims, NcFault>
         ensures few { IfOk result (λ x. length x < 2 ^ 32) }
-        ensures read { Answers (λ x. (x, self.new.at)) result ((dim_list self.old.version).read self.old.bytes.now self.old.at) }
+        ensures read { Answers (λ x. (x, self.new.at)) result
+            ((dim_list self.old.version).read self.old.bytes.now self.old.at) }
         ensures bytes { self.new.bytes ≡ self.old.bytes }
         ensures version { self.new.version ≡ self.old.version }
     {
@@ -110,7 +97,8 @@ impl<'a> Cursor<'a> {
 
     #[tactic(auto, unfolding(crate::specs::Grammar::att_list, crate::specs::Grammar::listed))]
     pub fn atts(&mut self, alloc: Global) -> Result<NcAtts, NcFault>
-        ensures read { Answers (λ x. (x, self.new.at)) result ((att_list self.old.version).read self.old.bytes.now self.old.at) }
+        ensures read { Answers (λ x. (x, self.new.at)) result
+            ((att_list self.old.version).read self.old.bytes.now self.old.at) }
         ensures bytes { self.new.bytes ≡ self.old.bytes }
         ensures version { self.new.version ≡ self.old.version }
     {
@@ -119,10 +107,11 @@ impl<'a> Cursor<'a> {
         self.some_atts(alloc, count)
     }
 
-    #[tactic(auto, using(crate::proofs::Loop::len_here), unfolding(crate::specs::Grammar::dim_id))]
+    #[tactic(auto, using(nc_write::proofs::Lens::len_here), unfolding(crate::specs::Grammar::dim_id))]
     pub fn id(&mut self, dims: &[NcDim], is_first: bool) -> Result<u32, NcFault>
         requires { length dims.now < 2 ^ 32 }
-        ensures read { Answers (λ x. (x, self.new.at)) result ((dim_id self.old.version dims.now is_first).read self.old.bytes.now self.old.at) }
+        ensures read { Answers (λ x. (x, self.new.at)) result
+            ((dim_id self.old.version dims.now is_first).read self.old.bytes.now self.old.at) }
         ensures bytes { self.new.bytes ≡ self.old.bytes }
         ensures version { self.new.version ≡ self.old.version }
     {
@@ -140,7 +129,8 @@ impl<'a> Cursor<'a> {
 
     pub fn some_ids(&mut self, alloc: Global, dims: &[NcDim], count: u32) -> Result<DimIds, NcFault>
         requires { length dims.now < 2 ^ 32 }
-        ensures read { Answers (λ x. (x, self.new.at)) result ((items (next_id self.old.version dims.now) count []).read self.old.bytes.now self.old.at) }
+        ensures read { Answers (λ x. (x, self.new.at)) result
+            ((items (next_id self.old.version dims.now) count []).read self.old.bytes.now self.old.at) }
         ensures bytes { self.new.bytes ≡ self.old.bytes }
         ensures version { self.new.version ≡ self.old.version }
     {
@@ -155,7 +145,8 @@ impl<'a> Cursor<'a> {
     #[tactic(auto, unfolding(crate::specs::Grammar::dim_ids))]
     pub fn ids(&mut self, alloc: Global, dims: &[NcDim]) -> Result<DimIds, NcFault>
         requires { length dims.now < 2 ^ 32 }
-        ensures read { Answers (λ x. (x, self.new.at)) result ((dim_ids self.old.version dims.now).read self.old.bytes.now self.old.at) }
+        ensures read { Answers (λ x. (x, self.new.at)) result
+            ((dim_ids self.old.version dims.now).read self.old.bytes.now self.old.at) }
         ensures bytes { self.new.bytes ≡ self.old.bytes }
         ensures version { self.new.version ≡ self.old.version }
     {
@@ -166,7 +157,8 @@ impl<'a> Cursor<'a> {
     #[tactic(auto, unfolding(crate::specs::Grammar::var))]
     pub fn var(&mut self, alloc: Global, dims: &[NcDim]) -> Result<NcVar, NcFault>
         requires { length dims.now < 2 ^ 32 }
-        ensures read { Answers (λ x. (x, self.new.at)) result ((var self.old.version dims.now).read self.old.bytes.now self.old.at) }
+        ensures read { Answers (λ x. (x, self.new.at)) result
+            ((var self.old.version dims.now).read self.old.bytes.now self.old.at) }
         ensures bytes { self.new.bytes ≡ self.old.bytes }
         ensures version { self.new.version ≡ self.old.version }
     {
@@ -196,7 +188,8 @@ impl<'a> Cursor<'a> {
     ) -> Result<NcVars, NcFault>
         requires { length dims.now < 2 ^ 32 }
         ensures few { IfOk result (λ x. length x < 2 ^ 32) }
-        ensures read { Answers (λ x. (x, self.new.at)) result ((items (λ _. var self.old.version dims.now) count []).read self.old.bytes.now self.old.at) }
+        ensures read { Answers (λ x. (x, self.new.at)) result
+            ((items (λ _. var self.old.version dims.now) count []).read self.old.bytes.now self.old.at) }
         ensures bytes { self.new.bytes ≡ self.old.bytes }
         ensures version { self.new.version ≡ self.old.version }
     {
@@ -212,7 +205,8 @@ impl<'a> Cursor<'a> {
     pub fn vars(&mut self, alloc: Global, dims: &[NcDim]) -> Result<NcVars, NcFault>
         requires { length dims.now < 2 ^ 32 }
         ensures few { IfOk result (λ x. length x < 2 ^ 32) }
-        ensures read { Answers (λ x. (x, self.new.at)) result ((var_list self.old.version dims.now).read self.old.bytes.now self.old.at) }
+        ensures read { Answers (λ x. (x, self.new.at)) result
+            ((var_list self.old.version dims.now).read self.old.bytes.now self.old.at) }
         ensures bytes { self.new.bytes ≡ self.old.bytes }
         ensures version { self.new.version ≡ self.old.version }
     {
@@ -224,7 +218,8 @@ impl<'a> Cursor<'a> {
     #[tactic(auto, unfolding(crate::specs::Grammar::body))]
     pub fn body(&mut self, alloc: Global) -> Result<NcFile, NcFault>
         ensures few { IfOk result (λ x. length x.vars < 2 ^ 32) }
-        ensures read { Answers (λ x. (x, self.new.at)) result ((body self.old.version).read self.old.bytes.now self.old.at) }
+        ensures read { Answers (λ x. (x, self.new.at)) result
+            ((body self.old.version).read self.old.bytes.now self.old.at) }
     {
         let records = self.records()?;
         let dims = self.dims(alloc)?;

@@ -71,7 +71,8 @@ pub fn read_header(alloc: Global, bytes: &[u8], file_len: u64) -> Result<NcFile,
     // A fault that is answered is the first one, unless memory ran out.
     ensures fault { IfErr result (IsTold (first_fault bytes.now file_len)) }
     // A first fault is answered, unless memory runs out.
-    ensures refused { (e : NcFault) → first_fault bytes.now file_len ≡ Some e → Answers (λ g. g) result (Err e) }
+    ensures refused { (e : NcFault) → first_fault bytes.now file_len ≡ Some e
+        → Answers (λ g. g) result (Err e) }
     ensures sound { IfOk result IsSound }
     // What is kept is at most a quarter of the bytes, by number.
     ensures few { IfOk result (λ f. 4 * item_count f ≤ length bytes.now) }

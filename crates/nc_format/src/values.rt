@@ -4,9 +4,9 @@ ghost use Rattle.nc_write.specs.Kinds.{size_of};
 ghost use Rattle.nc_format.specs.Numbers.{is_int, is_long, number_in, numbers_in, HasPieces, gathered};
 
 use crate::NcVar;
-use crate::parts::size_of;
 use byteorder::{BigEndian, ByteOrder};
 use nc_write::NcKind;
+use nc_write::kinds::size_of;
 use std::alloc::{AllocError, Global};
 use vec_exact::NoMemory;
 

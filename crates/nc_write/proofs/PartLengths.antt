@@ -13,12 +13,12 @@ use Rattle.nc_write.specs.declared.DocVar.{DocVar}
 use Rattle.nc_write.specs.declared.NcKind.{NcKind}
 use Rattle.nc_write.specs.declared.NcKind.TheVariants as kinds
 use Rattle.nc_write.specs.Kinds.{value, size_of, type_number}
-use Rattle.nc_write.specs.Widths.{width, begin_width, number, offset, code}
+use Rattle.nc_write.specs.Widths.{width, begin_width, number_bytes, offset, code}
 use Rattle.nc_write.specs.Extents.{pad_len, rounded}
-use Rattle.nc_write.specs.File.{name, padded, tagged, dimension, attribute, vsize, vsize_limit, shape, variable, variables, begin_of, fixed_len, first_len, fixed_total, piece_len, kind_of, header, header_len, version_of, is_long}
+use Rattle.nc_write.specs.File.{name_bytes, padded_bytes, tagged, dimension, attribute, vsize, vsize_limit, shape, variable, variables, begin_of, fixed_len, first_len, fixed_total, doc_piece_len, kind_of, header, header_len, version_of, has_longs}
 
-pub length_number : (version n : ℕ) → length (number version n) ≡ width version
-unfolding number
+pub length_number : (version n : ℕ) → length (number_bytes version n) ≡ width version
+unfolding number_bytes
 length_number version n = length-bytes_high_first (width version) n
 
 length_code : (n : ℕ) → length (code n) ≡ 4
@@ -33,27 +33,27 @@ length_value kind z = length-bytes_high_first (size_of kind) _
 pub length_offset : (doc : NcDoc) (n : ℕ) → length (offset (version_of doc) n) ≡ 8
 unfolding offset begin_width version_of
 length_offset doc n =
-    elim (list_any is_long doc.vars) as (λ b. length (big_bytes (if (if b then 5 else 2) == 1 then 4 else 8) n) ≡ 8) [ true ↦ refl | false ↦ refl ]
+    elim (list_any has_longs doc.vars) as (λ b. length (big_bytes (if (if b then 5 else 2) == 1 then 4 else 8) n) ≡ 8) [ true ↦ refl | false ↦ refl ]
 
-pub length_padded : (fill : ℕ) (bytes : List ℕ) → length (padded fill bytes) ≡ rounded (length bytes)
+pub length_padded : (fill : ℕ) (bytes : List ℕ) → length (padded_bytes fill bytes) ≡ rounded (length bytes)
 length_padded fill bytes = omega (arith, length-append bytes (replicate (pad_len (length bytes)) fill), length-replicate {A = ℕ} (pad_len (length bytes)) fill)
 
-pub length_name : (version : ℕ) (text : List ℕ) → length (name version text) ≡ width version + rounded (length text)
-unfolding name
-length_name version text = omega (arith, length-append (number version (length text)) (padded 0 text), length_number version (length text), length_padded 0 text)
+pub length_name : (version : ℕ) (text : List ℕ) → length (name_bytes version text) ≡ width version + rounded (length text)
+unfolding name_bytes
+length_name version text = omega (arith, length-append (number_bytes version (length text)) (padded_bytes 0 text), length_number version (length text), length_padded 0 text)
 
-pub length_dimension : (version : ℕ) (d : DocDim) → length (dimension version d) ≡ length (name version d.name) + width version
+pub length_dimension : (version : ℕ) (d : DocDim) → length (dimension version d) ≡ length (name_bytes version d.name) + width version
 unfolding dimension
-length_dimension version d = omega (arith, length-append (name version d.name) (number version d.len), length_number version d.len)
+length_dimension version d = omega (arith, length-append (name_bytes version d.name) (number_bytes version d.len), length_number version d.len)
 
-pub length_attribute : (version : ℕ) (a : DocAtt) → length (attribute version a) ≡ length (name version a.name) + width version + 8
+pub length_attribute : (version : ℕ) (a : DocAtt) → length (attribute version a) ≡ length (name_bytes version a.name) + width version + 8
 unfolding attribute
 length_attribute version a =
     omega (
       arith,
-      length-append (name version a.name ++ code (type_number kinds.Int) ++ number version 1) (value kinds.Int a.value),
-      length-append (name version a.name ++ code (type_number kinds.Int)) (number version 1),
-      length-append (name version a.name) (code (type_number kinds.Int)),
+      length-append (name_bytes version a.name ++ code (type_number kinds.Int) ++ number_bytes version 1) (value kinds.Int a.value),
+      length-append (name_bytes version a.name ++ code (type_number kinds.Int)) (number_bytes version 1),
+      length-append (name_bytes version a.name) (code (type_number kinds.Int)),
       length_code (type_number kinds.Int),
       length_number version 1,
       length_value kinds.Int a.value,
@@ -61,35 +61,35 @@ length_attribute version a =
 
 pub length_tagged : (version tag n : ℕ) (items : List ℕ) → (n ≡ 0 → items ≡ []) → length (tagged version tag n items) ≡ 4 + width version + length items
 unfolding tagged
-length_tagged version tag zero items none = omega (arith, length-append (code 0) (number version 0), length_code 0, length_number version 0, ap length (none refl))
-length_tagged version tag (suc n) items none = omega (arith, length-append (code tag ++ number version (suc n)) items, length-append (code tag) (number version (suc n)), length_code tag, length_number version (suc n))
+length_tagged version tag zero items none = omega (arith, length-append (code 0) (number_bytes version 0), length_code 0, length_number version 0, ap length (none refl))
+length_tagged version tag (suc n) items none = omega (arith, length-append (code tag ++ number_bytes version (suc n)) items, length-append (code tag) (number_bytes version (suc n)), length_code tag, length_number version (suc n))
 
 length_vsize : (version n : ℕ) → length (vsize version n) ≡ width version
 unfolding vsize
 length_vsize version n =
-    elim (nat_lt (vsize_limit version) n) as (λ b. length (if b then replicate (width version) 0xff else number version n) ≡ width version) [
+    elim (nat_lt (vsize_limit version) n) as (λ b. length (if b then replicate (width version) 0xff else number_bytes version n) ≡ width version) [
       | true ↦ length-replicate {A = ℕ} (width version) 0xff
       | false ↦ length_number version n
     ]
 
-length_ids : (version : ℕ) (ids : List ℕ) → length (flat_map (number version) ids) ≡ width version * length ids
+length_ids : (version : ℕ) (ids : List ℕ) → length (flat_map (number_bytes version) ids) ≡ width version * length ids
 length_ids version [] = omega arith
 length_ids version (n ∷ ns) =
-    length-append (number version n) (flat_map (number version) ns)
+    length-append (number_bytes version n) (flat_map (number_bytes version) ns)
     ∙ omega (arith, length_number version n, length_ids version ns, mul-suc (width version) (length ns))
 
 -- a variable's part of the header is as long wherever its data begins
-pub length_variable : (version : ℕ) (v : DocVar) (doc : NcDoc) (begin : ℕ) → version ≡ version_of doc → length (variable doc begin v) ≡ length (name version v.name) + width version * (length v.dims + 3) + 16
+pub length_variable : (version : ℕ) (v : DocVar) (doc : NcDoc) (begin : ℕ) → version ≡ version_of doc → length (variable doc begin v) ≡ length (name_bytes version v.name) + width version * (length v.dims + 3) + 16
 unfolding variable shape
 length_variable version v doc begin is =
     let w = width (version_of doc) in
     let tag = tagged (version_of doc) 12 0 [] in
     let kind = code (type_number (kind_of v.values)) in
-    let size = vsize (version_of doc) (rounded (piece_len doc v)) in
-    let text = name (version_of doc) v.name in
-    let count = number (version_of doc) (length v.dims) in
-    let ids = flat_map (number (version_of doc)) v.dims in
-    let same : name version v.name ≡ text = ap (λ n. name n v.name) is in
+    let size = vsize (version_of doc) (rounded (doc_piece_len doc v)) in
+    let text = name_bytes (version_of doc) v.name in
+    let count = number_bytes (version_of doc) (length v.dims) in
+    let ids = flat_map (number_bytes (version_of doc)) v.dims in
+    let same : name_bytes version v.name ≡ text = ap (λ n. name_bytes n v.name) is in
     let wide : width version ≡ w = ap width is in
     let far : length ids ≡ w * length v.dims = length_ids (version_of doc) v.dims in
     rw (wide, same) (
@@ -105,7 +105,7 @@ length_variable version v doc begin is =
       far,
       length_tagged (version_of doc) 12 0 [] (λ _. refl),
       length_code (type_number (kind_of v.values)),
-      length_vsize (version_of doc) (rounded (piece_len doc v)),
+      length_vsize (version_of doc) (rounded (doc_piece_len doc v)),
       length_offset doc begin,
       mul-add w (length v.dims) 3,
     )
@@ -134,7 +134,7 @@ unfolding header
 length_header doc begin =
     let n = version_of doc in
     let magic = 0x43 ∷ 0x44 ∷ 0x46 ∷ n ∷ [] in
-    let records = number n doc.records in
+    let records = number_bytes n doc.records in
     let dims = flat_map (dimension n) doc.dims in
     let atts = flat_map (attribute n) doc.atts in
     let vars = variables doc begin (begin + fixed_total doc) doc.vars in

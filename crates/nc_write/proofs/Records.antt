@@ -4,8 +4,8 @@ use Rattle.std.proofs.Math.Nat.{mul-div_cancel, mul_comm}
 use Rattle.std.specs.List.{flat_map, range_with_len}
 use Rattle.nc_write.specs.declared.NcDoc.{NcDoc}
 use Rattle.nc_write.specs.declared.DocVar.{DocVar}
-use Rattle.nc_write.specs.Extents.{piece_count}
-use Rattle.nc_write.specs.File.{numbers_of, is_record, lens_of, pieces_of}
+use Rattle.nc_write.specs.Extents.{lens_of, piece_count}
+use Rattle.nc_write.specs.File.{numbers_of, is_record, pieces_of}
 use Rattle.nc_write.specs.Form.{HasItsValues}
 
 flat_from : {A : Type 0} (f : ℕ → List A) (a k j : ℕ) → a + k ≡ j → flat_map f (range_with_len a (suc k)) ≡ flat_map f (range_with_len a k) ++ f j
@@ -20,8 +20,8 @@ pub flat_behind : {A : Type 0} (out : List A) (f : ℕ → List A) (k : ℕ) →
 flat_behind out f k = append_assoc out (flat_map f (range_with_len 0 k)) (f k) ∙ ap (λ l. out ++ l) (sym (flat_range_more f k))
 
 -- a record variable has as many values in each record
-pub values_of_record : (doc : NcDoc) (v : DocVar) → is_record doc v ≡ true → 0 < doc.records → HasItsValues doc v → length (numbers_of v.values) / doc.records ≡ piece_count (lens_of doc) v.dims
+pub values_of_record : (doc : NcDoc) (v : DocVar) → is_record doc v ≡ true → 0 < doc.records → HasItsValues doc v → length (numbers_of v.values) / doc.records ≡ piece_count (lens_of doc.dims) v.dims
 values_of_record doc v is some h =
     let pieces : pieces_of doc v ≡ doc.records = ap (λ b. if b then doc.records else 1) is in
-    let n : length (numbers_of v.values) ≡ piece_count (lens_of doc) v.dims * doc.records = h ∙ ap (λ k. k * piece_count (lens_of doc) v.dims) pieces ∙ mul_comm doc.records (piece_count (lens_of doc) v.dims) in
-    ap (λ k. k / doc.records) n ∙ mul-div_cancel (piece_count (lens_of doc) v.dims) some
+    let n : length (numbers_of v.values) ≡ piece_count (lens_of doc.dims) v.dims * doc.records = h ∙ ap (λ k. k * piece_count (lens_of doc.dims) v.dims) pieces ∙ mul_comm doc.records (piece_count (lens_of doc.dims) v.dims) in
+    ap (λ k. k / doc.records) n ∙ mul-div_cancel (piece_count (lens_of doc.dims) v.dims) some

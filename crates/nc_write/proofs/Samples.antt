@@ -7,9 +7,9 @@ use Rattle.nc_write.specs.declared.DocDim.{DocDim}
 use Rattle.nc_write.specs.declared.DocAtt.{DocAtt}
 use Rattle.nc_write.specs.declared.DocVar.{DocVar}
 use Rattle.nc_write.specs.Kinds.{value}
-use Rattle.nc_write.specs.Widths.{width, begin_width, number, offset, code}
-use Rattle.nc_write.specs.Extents.{product_of, has_records, piece_count}
-use Rattle.nc_write.specs.File.{version_of, has_several, piece_len, name, tagged, dimension, attribute, vsize, shape, variable, header, header_len, fixed_data, record_data, record_of, data_of, file_of, numbers_of, lens_of}
+use Rattle.nc_write.specs.Widths.{width, begin_width, number_bytes, offset, code}
+use Rattle.nc_write.specs.Extents.{lens_of, has_several, piece_len, product_of, has_records, piece_count}
+use Rattle.nc_write.specs.File.{version_of, name_bytes, tagged, dimension, attribute, vsize, shape, variable, header, header_len, fixed_data, record_data, record_of, data_of, file_of, numbers_of}
 use Rattle.nc_write.specs.Form.{IsWellFormed, full_lens}
 use Rattle.nc_write.specs.Samples.{one_record_variable, two_record_variables, smallest_cubed_sphere, no_pieces, without_records}
 
@@ -17,7 +17,7 @@ use Rattle.nc_write.specs.Samples.{one_record_variable, two_record_variables, sm
 record Rules (doc : NcDoc) : Type 0 where
   lens : AllByRecursion (λ d. d.len ≤ 4294967295) doc.dims
   ids : AllByRecursion (λ v. AllByRecursion (λ id. id < length doc.dims) v.dims) doc.vars
-  record_dim_first : AllByRecursion (λ v. AllByRecursion (λ id. slice_index (lens_of doc) id ≢ 0) (drop 1 v.dims)) doc.vars
+  record_dim_first : AllByRecursion (λ v. AllByRecursion (λ id. slice_index (lens_of doc.dims) id ≢ 0) (drop 1 v.dims)) doc.vars
   values : AllByRecursion (λ v. length (numbers_of v.values) ≡ product_of (full_lens doc) v.dims) doc.vars
   dim_names : AllByRecursion (λ d. length d.name < 2 ^ 31) doc.dims
   att_names : AllByRecursion (λ a. length a.name < 2 ^ 31) doc.atts
@@ -36,8 +36,8 @@ well_formed doc n r len short = record {
   one_record_dim = r.one_record_dim;
   ids = All-weaker (λ (v : DocVar). AllByRecursion (λ id. id < length doc.dims) v.dims) (λ (v : DocVar). All (λ id. id < length doc.dims) v.dims) (λ v h. All-from_recursion (λ (id : ℕ). id < length doc.dims) v.dims h) doc.vars
       (All-from_recursion (λ (v : DocVar). AllByRecursion (λ id. id < length doc.dims) v.dims) doc.vars r.ids);
-  record_dim_first = All-weaker (λ (v : DocVar). AllByRecursion (λ id. slice_index (lens_of doc) id ≢ 0) (drop 1 v.dims)) (λ (v : DocVar). All (λ id. slice_index (lens_of doc) id ≢ 0) (drop 1 v.dims)) (λ v h. All-from_recursion (λ (id : ℕ). slice_index (lens_of doc) id ≢ 0) (drop 1 v.dims) h) doc.vars
-      (All-from_recursion (λ (v : DocVar). AllByRecursion (λ id. slice_index (lens_of doc) id ≢ 0) (drop 1 v.dims)) doc.vars r.record_dim_first);
+  record_dim_first = All-weaker (λ (v : DocVar). AllByRecursion (λ id. slice_index (lens_of doc.dims) id ≢ 0) (drop 1 v.dims)) (λ (v : DocVar). All (λ id. slice_index (lens_of doc.dims) id ≢ 0) (drop 1 v.dims)) (λ v h. All-from_recursion (λ (id : ℕ). slice_index (lens_of doc.dims) id ≢ 0) (drop 1 v.dims) h) doc.vars
+      (All-from_recursion (λ (v : DocVar). AllByRecursion (λ id. slice_index (lens_of doc.dims) id ≢ 0) (drop 1 v.dims)) doc.vars r.record_dim_first);
   values = All-from_recursion (λ (v : DocVar). length (numbers_of v.values) ≡ product_of (full_lens doc) v.dims) doc.vars r.values;
   records = r.records;
   no_records = r.no_records;
@@ -54,7 +54,7 @@ well_formed doc n r len short = record {
 }
 
 one_length : length (file_of one_record_variable) ≡ 109
-unfolding one_record_variable value width begin_width number offset code product_of has_records piece_count version_of has_several piece_len name tagged dimension attribute vsize shape variable header header_len fixed_data record_data record_of data_of file_of
+unfolding one_record_variable value width begin_width number_bytes offset code product_of has_records piece_count version_of has_several piece_len name_bytes tagged dimension attribute vsize shape variable header header_len fixed_data record_data record_of data_of file_of
 one_length = refl
 
 one_rules : Rules one_record_variable
@@ -80,7 +80,7 @@ pub one_form : IsWellFormed one_record_variable
 one_form = well_formed one_record_variable 109 one_rules one_length (omega arith)
 
 two_length : length (file_of two_record_variables) ≡ 168
-unfolding two_record_variables value width begin_width number offset code product_of has_records piece_count version_of has_several piece_len name tagged dimension attribute vsize shape variable header header_len fixed_data record_data record_of data_of file_of
+unfolding two_record_variables value width begin_width number_bytes offset code product_of has_records piece_count version_of has_several piece_len name_bytes tagged dimension attribute vsize shape variable header header_len fixed_data record_data record_of data_of file_of
 two_length = refl
 
 two_rules : Rules two_record_variables
@@ -106,7 +106,7 @@ pub two_form : IsWellFormed two_record_variables
 two_form = well_formed two_record_variables 168 two_rules two_length (omega arith)
 
 mesh_length : length (file_of smallest_cubed_sphere) ≡ 440
-unfolding smallest_cubed_sphere value width begin_width number offset code product_of has_records piece_count version_of has_several piece_len name tagged dimension attribute vsize shape variable header header_len fixed_data record_data record_of data_of file_of
+unfolding smallest_cubed_sphere value width begin_width number_bytes offset code product_of has_records piece_count version_of has_several piece_len name_bytes tagged dimension attribute vsize shape variable header header_len fixed_data record_data record_of data_of file_of
 mesh_length = refl
 
 mesh_rules : Rules smallest_cubed_sphere
@@ -132,7 +132,7 @@ pub mesh_form : IsWellFormed smallest_cubed_sphere
 mesh_form = well_formed smallest_cubed_sphere 440 mesh_rules mesh_length (omega arith)
 
 none_length : length (file_of no_pieces) ≡ 104
-unfolding no_pieces value width begin_width number offset code product_of has_records piece_count version_of has_several piece_len name tagged dimension attribute vsize shape variable header header_len fixed_data record_data record_of data_of file_of
+unfolding no_pieces value width begin_width number_bytes offset code product_of has_records piece_count version_of has_several piece_len name_bytes tagged dimension attribute vsize shape variable header header_len fixed_data record_data record_of data_of file_of
 none_length = refl
 
 none_rules : Rules no_pieces
@@ -158,7 +158,7 @@ pub none_form : IsWellFormed no_pieces
 none_form = well_formed no_pieces 104 none_rules none_length (omega arith)
 
 long_length : length (file_of without_records) ≡ 268
-unfolding without_records value width begin_width number offset code product_of has_records piece_count version_of has_several piece_len name tagged dimension attribute vsize shape variable header header_len fixed_data record_data record_of data_of file_of
+unfolding without_records value width begin_width number_bytes offset code product_of has_records piece_count version_of has_several piece_len name_bytes tagged dimension attribute vsize shape variable header header_len fixed_data record_data record_of data_of file_of
 long_length = refl
 
 long_rules : Rules without_records

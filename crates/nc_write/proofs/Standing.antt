@@ -6,7 +6,7 @@ use Rattle.std.proofs.lemmas.Grind.{flat_map-append}
 use Rattle.std.specs.List.{flat_map, sum_by, range_with_len}
 use Rattle.nc_write.specs.declared.NcDoc.{NcDoc}
 use Rattle.nc_write.specs.declared.DocVar.{DocVar}
-use Rattle.nc_write.specs.File.{fixed_len, record_len, fixed_total, step_of, fixed_data, record_data, record_of, data_of, header, header_len, file_of}
+use Rattle.nc_write.specs.File.{fixed_len, record_len, fixed_total, doc_step, fixed_data, record_data, record_of, data_of, header, header_len, file_of}
 use Rattle.nc_write.specs.Form.{HasItsValues}
 use Rattle.nc_write.proofs.PartLengths.{length_header_any}
 use Rattle.nc_write.proofs.Places.{length_fixed_all, length_record_all, length_records}
@@ -43,10 +43,10 @@ range_split a (suc r) (suc m) j lt e =
 
 -- what stands a number of steps behind the begin of a record variable, and what follows
 pub record_stands : (doc : NcDoc) (front back : List DocVar) (v : DocVar) → doc.vars ≡ front ++ v ∷ back → All (HasItsValues doc) doc.vars
-    → (r : ℕ) → r < doc.records → (rest : List ℕ) × (drop (header_len doc + fixed_total doc + sum_by (record_len doc) front + r * step_of doc) (file_of doc) ≡ record_data doc r v ++ rest)
+    → (r : ℕ) → r < doc.records → (rest : List ℕ) × (drop (header_len doc + fixed_total doc + sum_by (record_len doc) front + r * doc_step doc) (file_of doc) ≡ record_data doc r v ++ rest)
 unfolding file_of data_of record_of
 record_stands doc front back v is all r lt =
-    let place = header_len doc + fixed_total doc + sum_by (record_len doc) front + r * step_of doc in
+    let place = header_len doc + fixed_total doc + sum_by (record_len doc) front + r * doc_step doc in
     let head = header doc (header_len doc) in
     let fixed = flat_map (fixed_data doc) doc.vars in
     let earlier = flat_map (record_of doc) (range_with_len 0 r) in

@@ -5,8 +5,8 @@ use Rattle.std.proofs.lemmas.Bool.Decides.{nat_tests}
 use Rattle.std.specs.List.{list_any}
 use Rattle.byteorder.specs.Endian.{big_bytes}
 use Rattle.nc_write.specs.declared.NcDoc.{NcDoc}
-use Rattle.nc_write.specs.Widths.{width, number}
-use Rattle.nc_write.specs.File.{vsize, vsize_limit, version_of, is_long}
+use Rattle.nc_write.specs.Widths.{width, number_bytes}
+use Rattle.nc_write.specs.File.{vsize, vsize_limit, version_of, has_longs}
 
 abbrev IsWritten : ℕ → Type 0
 IsWritten version = (version ≡ 2) ⊎ (version ≡ 5)
@@ -14,11 +14,11 @@ IsWritten version = (version ≡ 2) ⊎ (version ≡ 5)
 pub version_written : (doc : NcDoc) → (version_of doc ≡ 2) ⊎ (version_of doc ≡ 5)
 unfolding version_of
 version_written doc =
-    elim (list_any is_long doc.vars) as (λ b. IsWritten (if b then 5 else 2)) [ true ↦ inr refl | false ↦ inl refl ]
+    elim (list_any has_longs doc.vars) as (λ b. IsWritten (if b then 5 else 2)) [ true ↦ inr refl | false ↦ inl refl ]
 
 -- the greatest number of 64 bits has the byte ff throughout
-pub all_ones : (version : ℕ) → number version 18446744073709551615 ≡ replicate (width version) 0xff
-unfolding number width
+pub all_ones : (version : ℕ) → number_bytes version 18446744073709551615 ≡ replicate (width version) 0xff
+unfolding number_bytes width
 all_ones version =
     elim (version == 5) as (λ b. big_bytes (if b then 8 else 4) 18446744073709551615 ≡ replicate (if b then 8 else 4) 0xff) [ true ↦ refl | false ↦ refl ]
 

@@ -5,12 +5,12 @@ use Rattle.nc_write.specs.declared.DocVar.{DocVar}
 use Rattle.nc_write.specs.declared.NcDoc.{NcDoc}
 use Rattle.nc_write.specs.declared.EncFault.{EncFault}
 use Rattle.nc_write.specs.declared.EncFault.TheVariants.{TooLarge, NoMemory}
-use Rattle.nc_write.specs.Extents.{product_of, piece_count}
-use Rattle.nc_write.specs.File.{lens_of, numbers_of, pieces_of, file_of}
+use Rattle.nc_write.specs.Extents.{lens_of, product_of, piece_count}
+use Rattle.nc_write.specs.File.{numbers_of, pieces_of, file_of}
 
 -- the lengths of all dimensions, with the number of records as the length of the record dimension
 abbrev pub full_lens : NcDoc → List ℕ
-full_lens doc = map (λ n. if n == 0 then doc.records else n) (lens_of doc)
+full_lens doc = map (λ n. if n == 0 then doc.records else n) (lens_of doc.dims)
 
 -- each name has fewer than 2,147,483,648 items, and so has every list that isn't the values of a variable
 pub record HasShortLists (doc : NcDoc) : Type 0 where
@@ -31,7 +31,7 @@ pub record IsWellFormed (doc : NcDoc) : Type 0 where
   -- a dimension id names a dimension
   pub ids : All (λ v. All (λ id. id < length doc.dims) v.dims) doc.vars
   -- the record dimension stands nowhere but first
-  pub record_dim_first : All (λ v. All (λ id. slice_index (lens_of doc) id ≢ 0) (drop 1 v.dims)) doc.vars
+  pub record_dim_first : All (λ v. All (λ id. slice_index (lens_of doc.dims) id ≢ 0) (drop 1 v.dims)) doc.vars
   -- a variable has as many values as the product of its lengths says
   pub values : All (λ v. length (numbers_of v.values) ≡ product_of (full_lens doc) v.dims) doc.vars
   -- the number of records doesn't read as that of a streaming file
@@ -43,7 +43,7 @@ pub record IsWellFormed (doc : NcDoc) : Type 0 where
 
 -- a variable has the values of as many pieces as it is to have: one, or one a record
 abbrev pub HasItsValues : NcDoc → DocVar → Type 0
-HasItsValues doc v = length (numbers_of v.values) ≡ pieces_of doc v * piece_count (lens_of doc) v.dims
+HasItsValues doc v = length (numbers_of v.values) ≡ pieces_of doc v * piece_count (lens_of doc.dims) v.dims
 
 -- too large is said with the length, and only past the limit
 abbrev pub SaysLength : ℕ → EncFault → Type 0

@@ -1,5 +1,5 @@
 -- The types of netCDF values (netCDF classic format specification; CDF-5).
-use Rattle.std.specs.Prelude.{ℕ, ℤ, List}
+use Rattle.std.specs.Prelude.{ℕ, ℤ, List, ◌==◌, if◌then◌else◌}
 use Rattle.std.specs.Int.{Width, w8, w16, w32, w64, cast_unsigned}
 use Rattle.byteorder.specs.Endian.{big_bytes}
 use Rattle.nc_write.specs.declared.NcKind.{NcKind}
@@ -18,6 +18,13 @@ type_number UShort = 8
 type_number UInt = 9
 type_number Int64 = 10
 type_number UInt64 = 11
+
+-- the type that a number of 1 to 11 names
+unfoldable pub kind_numbered : ℕ → NcKind
+kind_numbered t =
+    if t == 1 then Byte else (if t == 2 then Char else (if t == 3 then Short else (if t == 4 then Int else (
+    if t == 5 then Float else (if t == 6 then Double else (if t == 7 then UByte else (
+    if t == 8 then UShort else (if t == 9 then UInt else (if t == 10 then Int64 else UInt64)))))))))
 
 -- the bytes of one value
 abbrev pub size_of : NcKind → ℕ

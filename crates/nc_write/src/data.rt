@@ -3,10 +3,10 @@ ghost use Rattle.std.specs.Prelude.{◌≡◌, ◌<◌, ◌≤◌, ◌*◌, ◌+
 ghost use Rattle.std.specs.List.{flat_map, range_with_len};
 ghost use Rattle.nc_write.specs.declared.NcKind.TheVariants as kinds;
 ghost use Rattle.nc_write.specs.Kinds.{value};
-ghost use Rattle.nc_write.specs.File.{kind_of, numbers_of, value_bytes, padded_if, fixed_data, record_data, record_of, data_of, has_several};
+ghost use Rattle.nc_write.specs.File.{kind_of, numbers_of, value_bytes, padded_if, fixed_data, record_data, record_of, data_of, pads_records};
 ghost use Rattle.nc_write.specs.Form.{HasItsValues};
 
-use crate::sizes::{has_several, is_record_var};
+use crate::sizes::{is_record_var, pads_records};
 use crate::spell::put_padding;
 use crate::{DocVar, NcDoc, Values};
 use byteorder::{BigEndian, ByteOrder};
@@ -15,7 +15,8 @@ use std::alloc::AllocError;
 // Makes room for so many values behind what is there, and gives the place where it begins.
 fn put_room(out: &mut Vec<u8>, size: usize, count: usize) -> Result<usize, AllocError>
     requires { 0 < size }
-    ensures { IfOk result (λ from. (from ≡ length out.old.items) × (out.new.items ≡ out.old.items ++ replicate (size * count) 0)) }
+    ensures { IfOk result (λ from. (from ≡ length out.old.items)
+        × (out.new.items ≡ out.old.items ++ replicate (size * count) 0)) }
 {
     let from = out.len();
     if count > (usize::MAX - from) / size {
@@ -74,7 +75,9 @@ fn values_len(values: &Values) -> usize
 fn put_values(out: &mut Vec<u8>, values: &Values, from: usize, to: usize) -> Result<(), AllocError>
     requires order { from ≤ to }
     requires within { to ≤ length (numbers_of values.now) }
-    ensures { OnOk result (out.new.items ≡ out.old.items ++ value_bytes (kind_of values.now) (slice_range (numbers_of values.now) from to)) }
+    ensures { OnOk result (out.new.items
+        ≡ out.old.items ++ value_bytes (kind_of values.now)
+        (slice_range (numbers_of values.now) from to)) }
 {
     match values {
         Values::Byte(numbers) => put_bytes(out, &numbers.items[from..to]),
@@ -93,7 +96,9 @@ fn put_piece(
 ) -> Result<(), AllocError>
     requires order { from ≤ to }
     requires within { to ≤ length (numbers_of values.now) }
-    ensures { OnOk result (out.new.items ≡ out.old.items ++ padded_if is_padded (value_bytes (kind_of values.now) (slice_range (numbers_of values.now) from to))) }
+    ensures { OnOk result (out.new.items
+        ≡ out.old.items ++ padded_if is_padded
+        (value_bytes (kind_of values.now) (slice_range (numbers_of values.now) from to))) }
 {
     let before = out.len();
     put_values(out, values, from, to)?;
@@ -123,7 +128,7 @@ fn put_record_part(
     r: u32,
     var: &DocVar,
 ) -> Result<(), AllocError>
-    requires several { several ≡ has_several doc.now }
+    requires several { several ≡ pads_records doc.now }
     requires record { r < doc.now.records }
     requires values { HasItsValues doc.now var.now }
     ensures { OnOk result (out.new.items ≡ out.old.items ++ record_data doc.now r var.now) }
@@ -139,7 +144,7 @@ fn put_record_part(
 // Record `r` of each record variable.
 #[tactic(auto, unfolding(crate::specs::File::record_of))]
 fn put_record(out: &mut Vec<u8>, doc: &NcDoc, several: bool, r: u32) -> Result<(), AllocError>
-    requires several { several ≡ has_several doc.now }
+    requires several { several ≡ pads_records doc.now }
     requires record { r < doc.now.records }
     requires values { All (HasItsValues doc.now) doc.now.vars }
     ensures { OnOk result (out.new.items ≡ out.old.items ++ record_of doc.now r) }
@@ -151,7 +156,8 @@ fn put_record(out: &mut Vec<u8>, doc: &NcDoc, several: bool, r: u32) -> Result<(
 }
 
 fn put_fixed_data(out: &mut Vec<u8>, doc: &NcDoc) -> Result<(), AllocError>
-    ensures { OnOk result (out.new.items ≡ out.old.items ++ flat_map (fixed_data doc.now) doc.now.vars) }
+    ensures { OnOk result (out.new.items
+        ≡ out.old.items ++ flat_map (fixed_data doc.now) doc.now.vars) }
 {
     for var in &doc.vars.items {
         put_fixed(out, doc, var)?;
@@ -161,9 +167,10 @@ fn put_fixed_data(out: &mut Vec<u8>, doc: &NcDoc) -> Result<(), AllocError>
 
 fn put_records(out: &mut Vec<u8>, doc: &NcDoc) -> Result<(), AllocError>
     requires { All (HasItsValues doc.now) doc.now.vars }
-    ensures { OnOk result (out.new.items ≡ out.old.items ++ flat_map (record_of doc.now) (range_with_len 0 doc.now.records)) }
+    ensures { OnOk result (out.new.items
+        ≡ out.old.items ++ flat_map (record_of doc.now) (range_with_len 0 doc.now.records)) }
 {
-    let several = has_several(doc);
+    let several = pads_records(doc);
     for r in 0..doc.records {
         put_record(out, doc, several, r)?;
     }

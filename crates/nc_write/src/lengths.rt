@@ -1,11 +1,11 @@
-// How long the parts of the header are. Sums stop as those of `sizes` do.
+// How long the parts of the header are. Sums stop as those of `extents` do.
 ghost use Rattle.std.specs.Prelude.{◌≡◌, ◌≤◌, ◌<◌, ◌^◌, length, min, All};
 ghost use Rattle.std.specs.List.{flat_map, sum_by};
 ghost use Rattle.nc_write.specs.Widths.{width};
-ghost use Rattle.nc_write.specs.File.{name, dimension, attribute, variable, header_len, version_of};
+ghost use Rattle.nc_write.specs.File.{name_bytes, dimension, attribute, variable, header_len, version_of};
 ghost use Rattle.nc_write.specs.Form.{HasShortLists};
 
-use crate::sizes::{plus, rounded};
+use crate::extents::{plus, rounded};
 use crate::{DocAtt, DocDim, DocVar, Name, NcDoc};
 
 /// The bytes of numrecs, a count, a length, a dimension id or a vsize.
@@ -20,7 +20,7 @@ fn width(version: u8) -> u64
 #[tactic(auto, using(crate::proofs::PartLengths::length_name))]
 fn name_len(version: u8, text: &Name) -> u64
     requires { length text.now < 2 ^ 31 }
-    ensures len { result ≡ length (name version text.now) }
+    ensures len { result ≡ length (name_bytes version text.now) }
     ensures small { result < 2 ^ 32 }
 {
     width(version) + rounded(text.items.len() as u64)
@@ -48,7 +48,8 @@ fn attribute_len(version: u8, att: &DocAtt) -> u64
 fn variable_len(version: u8, var: &DocVar) -> u64
     requires name { length var.now.name < 2 ^ 31 }
     requires ids { length var.now.dims < 2 ^ 31 }
-    ensures { (doc : _) (begin : _) → version ≡ version_of doc → result ≡ length (variable doc begin var.now) }
+    ensures { (doc : _) (begin : _) → version ≡ version_of doc
+        → result ≡ length (variable doc begin var.now) }
 {
     let ids = var.dims.items.len() as u64;
     name_len(version, &var.name) + width(version) * (ids + 3) + 16

@@ -2,10 +2,13 @@
 #![tactic(auto)]
 
 mod data;
+pub mod extents;
+pub mod kinds;
 mod lengths;
 mod lists;
 mod sizes;
 mod spell;
+pub mod tags;
 #[cfg(test)]
 mod tests;
 mod writing;

@@ -3,28 +3,24 @@ ghost use Rattle.std.specs.Prelude.{◌≡◌, ◌⊎◌, ◌<◌, ◌≤◌, �
 ghost use Rattle.std.specs.List.{flat_map, sum_by};
 ghost use Rattle.nc_write.specs.declared.NcKind.TheVariants as kinds;
 ghost use Rattle.nc_write.specs.Kinds.{value};
-ghost use Rattle.nc_write.specs.Widths.{number, offset, code};
+ghost use Rattle.nc_write.specs.Widths.{dimension_tag, variable_tag, attribute_tag, number_bytes, offset, code};
 ghost use Rattle.nc_write.specs.Extents.{pad_len};
-ghost use Rattle.nc_write.specs.File.{name, tagged, dimension, attribute, vsize, vsize_limit, shape, variable, variables, version_of, fixed_len, first_len, fixed_total};
+ghost use Rattle.nc_write.specs.File.{name_bytes, tagged, dimension, attribute, vsize, vsize_limit, shape, variable, variables, version_of, fixed_len, first_len, fixed_total};
 ghost use Rattle.nc_write.specs.Form.{HasShortLists};
 
+use crate::kinds::type_number;
 use crate::sizes::{
-    first_len, fixed_len, fixed_total, has_several, is_record_var, plus, rounded_piece, type_number,
+    first_len, fixed_len, fixed_total, is_record_var, kind_of, pads_records, rounded_piece,
 };
-use crate::{DocAtt, DocDim, DocVar, Name, NcDoc};
+use crate::tags::{ATTRIBUTES, DIMENSIONS, VARIABLES};
+use crate::{DocAtt, DocDim, DocVar, Name, NcDoc, NcKind};
 use byteorder::{BigEndian, ByteOrder};
 use std::alloc::AllocError;
 
-const DIMENSIONS: u32 = 10;
-
-const VARIABLES: u32 = 11;
-
-const ATTRIBUTES: u32 = 12;
-
 // The lowest bytes of a number, as many as the version has.
-#[tactic(auto, unfolding(crate::specs::Widths::number, crate::specs::Widths::width))]
+#[tactic(auto, unfolding(crate::specs::Widths::number_bytes, crate::specs::Widths::width))]
 pub fn put_number(out: &mut Vec<u8>, version: u8, n: u64) -> Result<(), AllocError>
-    ensures { OnOk result (out.new.items ≡ out.old.items ++ number version n) }
+    ensures { OnOk result (out.new.items ≡ out.old.items ++ number_bytes version n) }
 {
     let mut bytes = [0u8; 8];
     BigEndian::write_u64(&mut bytes, n);
@@ -75,9 +71,9 @@ pub fn put_padding(out: &mut Vec<u8>, len: usize, fill: u8) -> Result<(), AllocE
     out.resize(have + missing, fill)
 }
 
-#[tactic(auto, unfolding(crate::specs::File::name))]
+#[tactic(auto, unfolding(crate::specs::File::name_bytes))]
 fn put_name(out: &mut Vec<u8>, version: u8, text: &Name) -> Result<(), AllocError>
-    ensures { OnOk result (out.new.items ≡ out.old.items ++ name version text.now) }
+    ensures { OnOk result (out.new.items ≡ out.old.items ++ name_bytes version text.now) }
 {
     put_number(out, version, text.items.len() as u64)?;
     out.extend_from_slice(&text.items)?;
@@ -87,7 +83,8 @@ fn put_name(out: &mut Vec<u8>, version: u8, text: &Name) -> Result<(), AllocErro
 // The head of a list of so many items.
 #[tactic(auto, unfolding(crate::specs::File::tagged))]
 fn put_tag(out: &mut Vec<u8>, version: u8, tag: u32, count: usize) -> Result<(), AllocError>
-    ensures { (items : _) → (count ≡ 0 → items ≡ []) → OnOk result (out.new.items ++ items ≡ out.old.items ++ tagged version tag count items) }
+    ensures { (items : _) → (count ≡ 0 → items ≡ [])
+        → OnOk result (out.new.items ++ items ≡ out.old.items ++ tagged version tag count items) }
 {
     put_code(out, if count == 0 { 0 } else { tag })?;
     put_number(out, version, count as u64)
@@ -102,7 +99,9 @@ fn put_dimension(out: &mut Vec<u8>, version: u8, dim: &DocDim) -> Result<(), All
 }
 
 pub fn put_dimensions(out: &mut Vec<u8>, version: u8, dims: &[DocDim]) -> Result<(), AllocError>
-    ensures { OnOk result (out.new.items ≡ out.old.items ++ tagged version 10 (length dims.now) (flat_map (dimension version) dims.now)) }
+    ensures { OnOk result (out.new.items
+        ≡ out.old.items ++ tagged version dimension_tag (length dims.now)
+        (flat_map (dimension version) dims.now)) }
 {
     put_tag(out, version, DIMENSIONS, dims.len())?;
     for dim in dims {
@@ -116,13 +115,15 @@ fn put_attribute(out: &mut Vec<u8>, version: u8, att: &DocAtt) -> Result<(), All
     ensures { OnOk result (out.new.items ≡ out.old.items ++ attribute version att.now) }
 {
     put_name(out, version, &att.name)?;
-    put_code(out, 4)?;
+    put_code(out, type_number(NcKind::Int))?;
     put_number(out, version, 1)?;
     put_int(out, att.value)
 }
 
 pub fn put_attributes(out: &mut Vec<u8>, version: u8, atts: &[DocAtt]) -> Result<(), AllocError>
-    ensures { OnOk result (out.new.items ≡ out.old.items ++ tagged version 12 (length atts.now) (flat_map (attribute version) atts.now)) }
+    ensures { OnOk result (out.new.items
+        ≡ out.old.items ++ tagged version attribute_tag (length atts.now)
+        (flat_map (attribute version) atts.now)) }
 {
     put_tag(out, version, ATTRIBUTES, atts.len())?;
     for att in atts {
@@ -132,7 +133,8 @@ pub fn put_attributes(out: &mut Vec<u8>, version: u8, atts: &[DocAtt]) -> Result
 }
 
 fn put_ids(out: &mut Vec<u8>, version: u8, ids: &[u32]) -> Result<(), AllocError>
-    ensures { OnOk result (out.new.items ≡ out.old.items ++ flat_map (number version) ids.now) }
+    ensures { OnOk result (out.new.items
+        ≡ out.old.items ++ flat_map (number_bytes version) ids.now) }
 {
     for id in ids {
         put_number(out, version, u64::from(*id))?;
@@ -182,7 +184,9 @@ fn put_variable_tail(
     begin: u64,
 ) -> Result<(), AllocError>
     requires { (version ≡ 2) ⊎ (version ≡ 5) }
-    ensures { OnOk result (out.new.items ≡ out.old.items ++ (tagged version 12 0 [] ++ code kind ++ vsize version len ++ offset version begin)) }
+    ensures { OnOk result (out.new.items
+        ≡ out.old.items ++ (tagged version attribute_tag 0 [] ++ code kind ++ vsize version len
+        ++ offset version begin)) }
 {
     put_tag(out, version, ATTRIBUTES, 0)?;
     put_code(out, kind)?;
@@ -202,7 +206,7 @@ fn put_variable(
     ensures { OnOk result (out.new.items ≡ out.old.items ++ variable doc.now begin var.now) }
 {
     put_shape(out, version, var)?;
-    let kind = type_number(&var.values);
+    let kind = type_number(kind_of(&var.values));
     put_variable_tail(out, version, kind, rounded_piece(doc, var), begin)
 }
 
@@ -215,10 +219,12 @@ pub fn put_variables(
 ) -> Result<(), AllocError>
     requires version { version ≡ version_of doc.now }
     requires room { begin + fixed_total doc.now + sum_by (first_len doc.now) doc.now.vars < 2 ^ 63 }
-    ensures { OnOk result (out.new.items ≡ out.old.items ++ tagged version 11 (length doc.now.vars) (variables doc.now begin (begin + fixed_total doc.now) doc.now.vars)) }
+    ensures { OnOk result (out.new.items
+        ≡ out.old.items ++ tagged version variable_tag (length doc.now.vars)
+        (variables doc.now begin (begin + fixed_total doc.now) doc.now.vars)) }
 {
     put_tag(out, version, VARIABLES, doc.vars.items.len())?;
-    let several = has_several(doc);
+    let several = pads_records(doc);
     let mut fixed = begin;
     let mut record_place = begin + fixed_total(doc);
     for var in &doc.vars.items {

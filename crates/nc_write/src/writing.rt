@@ -5,8 +5,9 @@ ghost use Rattle.nc_write.specs.File.{file_of, header, header_len, version_of, f
 ghost use Rattle.nc_write.specs.Form.{IsWellFormed, SaysLength};
 
 use crate::data::put_data;
+use crate::extents::plus;
 use crate::lengths::header_len;
-use crate::sizes::{data_len, plus, version_of};
+use crate::sizes::{data_len, version_of};
 use crate::spell::{put_attributes, put_dimensions, put_number, put_variables};
 use crate::{EncFault, NcDoc};
 use std::alloc::{AllocError, Global};

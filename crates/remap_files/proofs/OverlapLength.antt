@@ -11,9 +11,9 @@ use Rattle.nc_write.specs.declared.NcDoc.{NcDoc}
 use Rattle.nc_write.specs.declared.Values.{Values}
 use Rattle.nc_write.specs.declared.Values.TheVariants.{Byte, Int}
 use Rattle.nc_write.specs.Kinds.{size_of, value}
-use Rattle.nc_write.specs.Extents.{rounded, product_of, has_records}
-use Rattle.nc_write.specs.Widths.{width, number, code}
-use Rattle.nc_write.specs.File.{version_of, lens_of, kind_of, numbers_of, is_record, fixed_data, header_len, dimension, attribute, name, variable, file_of}
+use Rattle.nc_write.specs.Extents.{lens_of, rounded, product_of, has_records}
+use Rattle.nc_write.specs.Widths.{width, number_bytes, code}
+use Rattle.nc_write.specs.File.{version_of, kind_of, numbers_of, is_record, fixed_data, header_len, dimension, attribute, name_bytes, variable, file_of}
 use Rattle.nc_write.specs.Form.{IsWellFormed, full_lens}
 use Rattle.nc_write.proofs.PartLengths.{header_len_is}
 use Rattle.nc_write.proofs.Places.{length_fixed_data, length_file_of_fixed}
@@ -68,16 +68,16 @@ length_corners (p ∷ ps) h =
 -- The header.
 
 dims_length : (pieces corners : ℕ) → length (flat_map (dimension 2) (overlap_dims pieces corners)) ≡ 56
-unfolding dimension name number width
+unfolding dimension name_bytes number_bytes width
 dims_length pieces corners = refl
 
 atts_length : (faces_a faces_b pieces : ℕ) → length (flat_map (attribute 2) (overlap_atts faces_a faces_b pieces)) ≡ 72
-unfolding attribute name number width value code
+unfolding attribute name_bytes number_bytes width value code
 atts_length faces_a faces_b pieces = refl
 
 -- the names of the five variables, each filled up to a multiple of 4 bytes
-name_lengths : (length (name 2 (codes "source")) ≡ 12) × (length (name 2 (codes "target")) ≡ 12) × (length (name 2 (codes "ring_size")) ≡ 16) × (length (name 2 (codes "ring_plane")) ≡ 16) × (length (name 2 (codes "corner")) ≡ 12)
-unfolding name number width
+name_lengths : (length (name_bytes 2 (codes "source")) ≡ 12) × (length (name_bytes 2 (codes "target")) ≡ 12) × (length (name_bytes 2 (codes "ring_size")) ≡ 16) × (length (name_bytes 2 (codes "ring_plane")) ≡ 16) × (length (name_bytes 2 (codes "corner")) ≡ 12)
+unfolding name_bytes number_bytes width
 name_lengths = (refl, refl, refl, refl, refl)
 
 sum_of_five : (f : DocVar → ℕ) (a b c d e : DocVar) → sum_by f (a ∷ b ∷ c ∷ d ∷ e ∷ []) ≡ f a + f b + f c + f d + f e
@@ -251,15 +251,15 @@ some_form faces_a faces_b p ps few sized matched =
           ),
         ),
       );
-      record_dim_first = All-from_recursion (λ v. All (λ id. slice_index (lens_of doc) id ≢ 0) (drop 1 v.dims)) doc.vars (
-        All-from_recursion (λ id. slice_index (lens_of doc) id ≢ 0) [] tt,
+      record_dim_first = All-from_recursion (λ v. All (λ id. slice_index (lens_of doc.dims) id ≢ 0) (drop 1 v.dims)) doc.vars (
+        All-from_recursion (λ id. slice_index (lens_of doc.dims) id ≢ 0) [] tt,
         (
-          All-from_recursion (λ id. slice_index (lens_of doc) id ≢ 0) [] tt,
+          All-from_recursion (λ id. slice_index (lens_of doc.dims) id ≢ 0) [] tt,
           (
-            All-from_recursion (λ id. slice_index (lens_of doc) id ≢ 0) [] tt,
+            All-from_recursion (λ id. slice_index (lens_of doc.dims) id ≢ 0) [] tt,
             (
-              All-from_recursion (λ id. slice_index (lens_of doc) id ≢ 0) [] tt,
-              (All-from_recursion (λ id. slice_index (lens_of doc) id ≢ 0) (2 ∷ []) (not_none 3 (lit≤ tt), tt), tt),
+              All-from_recursion (λ id. slice_index (lens_of doc.dims) id ≢ 0) [] tt,
+              (All-from_recursion (λ id. slice_index (lens_of doc.dims) id ≢ 0) (2 ∷ []) (not_none 3 (lit≤ tt), tt), tt),
             ),
           ),
         ),
@@ -291,7 +291,7 @@ none_form faces_a faces_b =
       lens = All-from_recursion (λ d. d.len ≤ 4294967295) doc.dims tt;
       one_record_dim = lit≤ tt;
       ids = All-from_recursion (λ v. All (λ id. id < 0) v.dims) doc.vars tt;
-      record_dim_first = All-from_recursion (λ v. All (λ id. slice_index (lens_of doc) id ≢ 0) (drop 1 v.dims)) doc.vars tt;
+      record_dim_first = All-from_recursion (λ v. All (λ id. slice_index (lens_of doc.dims) id ≢ 0) (drop 1 v.dims)) doc.vars tt;
       values = All-from_recursion (FillsDims doc) doc.vars tt;
       records = lit< tt;
       no_records = λ _. refl;

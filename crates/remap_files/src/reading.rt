@@ -8,7 +8,7 @@ ghost use Rattle.remap_files.specs.OverlapIn.{lists_in, overlap_in};
 use crate::{FileFault, find_overlap, overlap_from};
 use clip::Overlap;
 use exodus_mesh::{NameFault, read_ints};
-use nc_format::NcFile;
+use nc_format::{NcFile, law_first_fault};
 use std::alloc::Global;
 use vec_exact::{Ints, NoMemory};
 
@@ -45,6 +45,8 @@ pub fn read_overlap(alloc: Global, file: &NcFile, bytes: &[u8]) -> Result<Overla
     ensures fault { IfErr result (λ fault. Refuses fault (overlap_in file.now bytes.now)) }
     ensures of_names_or_rows { IfErr result IsOfNamesOrRows }
 {
+    // Every header is sound.
+    law_first_fault();
     let vars = match find_overlap(alloc, file) {
         Ok(vars) => vars,
         Err(fault) => return Err(file_fault(fault)),

@@ -1,7 +1,6 @@
 use Rattle.std.proofs.Common.{◌≡◌, ◌∙◌, ap, sym, subst, map, length, ℕ, ℤ, List, All, Result, Ok}
 use Rattle.std.specs.Prelude.{IfOk, IfErr}
 use Rattle.clip.specs.Overlaps.{OverlapParts}
-use Rattle.nc_format.proofs.SoundParts.{header_is_sound}
 use Rattle.remap_files.specs.declared.vars.OverlapVars.{OverlapVars}
 use Rattle.remap_files.specs.declared.faults.FileFault.{FileFault}
 use Rattle.remap_files.specs.Answers.{Refuses}
@@ -13,7 +12,7 @@ use Rattle.remap_files.proofs.ReadOverlaps.{overlap_in_is, names_refused}
 use Rattle.remap_files.proofs.reading.read_overlap.Goals as goal
 
 pub find_overlap-requires : goal.find_overlap-requires
-find_overlap-requires c = record { sound = header_is_sound c.args.bytes.now (length c.args.bytes.now) c.args.file.now c.requires.header }
+find_overlap-requires c = record { sound = c.law_first_fault.ensures.sound c.args.bytes.now (length c.args.bytes.now) c.args.file.now c.requires.header }
 
 pub returns-in-Err-clause-fault : goal.returns-in-Err-clause-fault
 returns-in-Err-clause-fault c =

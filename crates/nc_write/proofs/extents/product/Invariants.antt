@@ -1,7 +1,6 @@
 use Rattle.std.proofs.Common.{◌≡◌, ◌*◌, ◌≤◌, ◌^◌, drop, min}
-use Rattle.nc_write.specs.Extents.{product_of}
-use Rattle.nc_format.specs.Grammar.{lens_of}
-use Rattle.nc_format.proofs.placing.product.Given as goal
+use Rattle.nc_write.specs.Extents.{lens_of, product_of}
+use Rattle.nc_write.proofs.extents.product.Given as goal
 
 abbrev pub invariant-loop-id : goal.invariant-loop-id
 invariant-loop-id l = record {
