@@ -3,3 +3,4 @@ pub mod FaceSums
 pub mod Exchange
 pub mod Masses
 pub mod Bounds
+pub mod Groups
