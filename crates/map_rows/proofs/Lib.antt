@@ -3,4 +3,5 @@ pub mod FaceSums
 pub mod Exchange
 pub mod Masses
 pub mod Bounds
+pub mod Floors
 pub mod Groups
