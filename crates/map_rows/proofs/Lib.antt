@@ -5,3 +5,4 @@ pub mod Masses
 pub mod Bounds
 pub mod Floors
 pub mod Groups
+pub mod TwoRows
