@@ -3,3 +3,6 @@ pub mod FaceSums
 pub mod Exchange
 pub mod Masses
 pub mod Bounds
+pub mod Floors
+pub mod Groups
+pub mod TwoRows

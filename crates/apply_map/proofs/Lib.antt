@@ -1,0 +1,3 @@
+pub mod MassSteps
+mod SumSteps
+mod Slices

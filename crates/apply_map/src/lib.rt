@@ -1,0 +1,15 @@
+//! Fields carried over by a map, in whole parts and rests, and the masses of fields.
+#![tactic(auto)]
+
+mod application;
+mod fields;
+mod fill;
+mod masses;
+mod sums;
+#[cfg(test)]
+mod tests;
+
+pub use application::apply;
+pub use fields::{ApplyFault, Field};
+pub use fill::fill_at;
+pub use masses::{source_mass, target_mass};
