@@ -6,11 +6,11 @@ ghost use Rattle.cover_cells.specs.Cells.{IsCell, IsNamed, IsHalf, HasNoHalf, pl
 ghost use Rattle.cover_cells.specs.Sides.{IsRunOf};
 
 use crate::planes::{plane_of, sides_on};
-use crate::sides::{Left, left_of, place_after};
+use crate::sides::{Left, left_of};
 use crate::{Cell, CellPlane, Cells};
 use mesh_check::Mesh;
 use std::alloc::Global;
-use vec_exact::NoMemory;
+use vec_exact::{NoMemory, place_after};
 
 // The cell's planes from place `first` on, up to `count` places later, and then p.
 fn run_of(

@@ -8,10 +8,9 @@ ghost use Rattle.cover_cells.specs.Cells.{own_face, plane_of, planes_of, IsNamed
 ghost use Rattle.cover_cells.specs.Sides.{AreSides};
 
 use crate::CellPlane;
-use crate::sides::next_place;
 use mesh_check::{Mesh, plane};
 use std::alloc::Global;
-use vec_exact::{NoMemory, Vec3, cross, dot};
+use vec_exact::{NoMemory, Vec3, cross, dot, next_place};
 
 // The plane of the edge that p names, not turned.
 fn edge_plane(a: &Mesh, b: &Mesh, j: u32, p: CellPlane) -> Vec3

@@ -3,6 +3,8 @@ ghost use Rattle.std.specs.Prelude.{◌≡◌, ◌↔◌, ◌<◌, ◌≤◌, po
 ghost use Rattle.vec_exact.specs.Cycle.{after, shifted};
 ghost use Rattle.cover_cells.specs.Sides.{side_at, IsLeft};
 
+use vec_exact::{next_place, place_after};
+
 /// What one more plane leaves of a ring.
 #[derive(Clone, Copy, Debug, PartialEq, Eq)]
 pub enum Left {
@@ -13,31 +15,6 @@ pub enum Left {
     /// The planes of a run of positive corners, which begins at place `first`, from 0, and has
     /// `count` corners; the new plane closes the gap.
     Run { first: usize, count: usize },
-}
-
-// The place after t in a cycle of `count` places, from 0.
-#[tactic(auto, using(vec_exact::proofs::Cycles::after_inner, vec_exact::proofs::Cycles::after_last))]
-pub fn next_place(count: usize, t: usize) -> usize
-    requires { t < count }
-    ensures value { result ≡ after count t }
-    ensures below { result < count }
-{
-    if t + 1 == count { 0 } else { t + 1 }
-}
-
-// The place t places after `first` in a cycle of `count` places, from 0.
-#[tactic(auto, using(vec_exact::proofs::Cycles::shifted_early, vec_exact::proofs::Cycles::shifted_late))]
-pub fn place_after(count: usize, first: usize, t: usize) -> usize
-    requires first { first < count }
-    requires within { t ≤ count }
-    ensures value { result ≡ shifted count first t }
-    ensures below { t < count → result < count }
-{
-    if t < count - first {
-        t + first
-    } else {
-        t - (count - first)
-    }
 }
 
 // Whether a side is negative.

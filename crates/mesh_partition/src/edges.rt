@@ -3,14 +3,13 @@ ghost use Rattle.std.specs.Prelude.{◌≡◌, ◌≤◌, ◌<◌, ◌+◌, ◌*
 ghost use Rattle.std.specs.List.Sorted.{IsStrictlySortedBy};
 ghost use Rattle.std.specs.Ordering.{int_cmp};
 ghost use Rattle.std.specs.Cmp.Lexicographic.{slice_cmp};
-ghost use Rattle.vec_exact.specs.Cycle.{after};
 ghost use Rattle.mesh_check.specs.Mesh.{face_of};
 ghost use Rattle.mesh_partition.specs.Edges.{edge_between, reverse_edge, edge_at, edges_of_face, edges_of, IsEdge, IsUnpaired, IsEdgeCount};
 ghost use Rattle.mesh_partition.specs.SortedEdges.{is_among, is_alone_among};
 
 use mesh_check::{Mesh, edge_count, face_count, node};
 use std::alloc::Global;
-use vec_exact::NoMemory;
+use vec_exact::{NoMemory, next_place};
 
 fn edge_between(from: [i32; 3], to: [i32; 3]) -> [i32; 6]
     ensures { result ≡ edge_between from to }
@@ -24,23 +23,13 @@ fn reversed(edge: [i32; 6]) -> [i32; 6]
     [edge[3], edge[4], edge[5], edge[0], edge[1], edge[2]]
 }
 
-// The place after t in a cycle of `count` places, from 0.
-#[tactic(auto, using(vec_exact::proofs::Cycles::after_inner, vec_exact::proofs::Cycles::after_last))]
-fn next_place(count: u32, t: u32) -> u32
-    requires { t < count }
-    ensures value { result ≡ after count t }
-    ensures below { result < count }
-{
-    if t + 1 == count { 0 } else { t + 1 }
-}
-
 // The edge at place t of a face, from 0.
 fn edge(mesh: &Mesh, face: u32, t: u32) -> [i32; 6]
     requires face { (1 ≤ face) × (face ≤ length mesh.now.faces) }
     requires place { t < length (face_of mesh.now face) }
     ensures { result ≡ edge_at mesh.now face t }
 {
-    let next = next_place(edge_count(mesh, face), t);
+    let next = next_place(edge_count(mesh, face) as usize, t as usize) as u32;
     edge_between(node(mesh, face, t + 1), node(mesh, face, next + 1))
 }
 
