@@ -9,8 +9,6 @@ mod laws;
 mod nodes;
 mod points;
 mod round;
-#[cfg(test)]
-mod tests;
 
 ghost use Rattle.std.specs.Prelude.{◌≡◌, ◌≤◌, ◌⊎◌, ◌*◌, All, Err, IfOk, OnOk, length};
 ghost use Rattle.vec_exact.specs.Counts.{AreAllowedCounts};

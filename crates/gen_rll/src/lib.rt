@@ -3,8 +3,6 @@
 
 mod faces;
 mod nodes;
-#[cfg(test)]
-mod tests;
 mod trigonometry;
 
 ghost use Rattle.std.specs.Prelude.{◌≡◌, ◌≢◌, ◌≤◌, ◌⊎◌, ◌+◌, ◌-◌, ◌*◌, Err, IfErr, IfOk, OnOk, length};

@@ -8,8 +8,6 @@ mod generated;
 mod laws;
 mod mesh;
 mod nodes;
-#[cfg(test)]
-mod tests;
 
 pub use counts::check_counts;
 pub use faults::{GenFault, MeshFault};
