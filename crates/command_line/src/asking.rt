@@ -16,7 +16,10 @@ use std::alloc::{AllocError, Global};
 /// The command with its options, from items that are right for it.
 pub fn asked(alloc: Global, command: Command, items: &[Item]) -> Result<Chosen, AllocError>
     requires { are_right (rules_of command) (map item_of items.now) ≡ true }
-    ensures chosen { IfOk result (λ c. c ≡ choice_of command (value_in (map item_of items.now)) (stands_in (map item_of items.now))) }
+    ensures chosen { IfOk result (λ c.
+        c ≡ choice_of command
+        (value_in (map item_of items.now))
+        (stands_in (map item_of items.now))) }
     ensures limits { IfOk result HasLimits }
 {
     let words = spelled(alloc, command, items)?;

@@ -29,7 +29,8 @@ fn number(matches: &ArgMatches, name: &str) -> u32
 }
 
 fn workers(matches: &ArgMatches) -> u32
-    requires { IfSome (first_value (found_of matches.now) (codes "workers")) (λ t. is_numeral t ≡ true) }
+    requires { IfSome (first_value (found_of matches.now) (codes "workers"))
+        (λ t. is_numeral t ≡ true) }
     ensures { result ≡ workers_of (first_value (found_of matches.now)) }
 {
     match matches.get_str("workers") {
@@ -50,7 +51,10 @@ fn stands(matches: &ArgMatches, name: &str) -> bool
 /// The command with its options.
 pub fn chosen(alloc: Global, command: Command, matches: &ArgMatches) -> Result<Chosen, AllocError>
     requires { AreTold (rules_of command) (first_value (found_of matches.now)) }
-    ensures { IfOk result (λ c. c ≡ choice_of command (first_value (found_of matches.now)) (says_true (first_value (found_of matches.now)))) }
+    ensures { IfOk result (λ c.
+        c ≡ choice_of command
+        (first_value (found_of matches.now))
+        (says_true (first_value (found_of matches.now)))) }
 {
     match command {
         Command::GenerateCSMesh => Ok(Chosen::Cs {

@@ -22,7 +22,8 @@ fn is_flag(word: &str) -> bool
 
 /// An option whose value is the next word, and the words behind that.
 fn in_two_words<'a>(name: &'a str, after: &'a [String]) -> Option<(Item<'a>, &'a [String])>
-    ensures item { option_map (λ p. (item_of p.0, texts p.1.now)) result ≡ in_two_words name.entry.now (texts after.entry.now) }
+    ensures item { option_map (λ p. (item_of p.0, texts p.1.now)) result
+        ≡ in_two_words name.entry.now (texts after.entry.now) }
     ensures behind { IfSome result (λ p. length p.1.now ≤ length after.entry.now) }
 {
     let [value, rest @ ..] = after else {
@@ -35,7 +36,8 @@ fn in_two_words<'a>(name: &'a str, after: &'a [String]) -> Option<(Item<'a>, &'a
 /// The item that begins with `word`, and the words behind it.
 #[tactic(auto, using(crate::proofs::Lists::list_any_nowhere))]
 fn first_item<'a>(word: &'a str, after: &'a [String]) -> Option<(Item<'a>, &'a [String])>
-    ensures item { option_map (λ p. (item_of p.0, texts p.1.now)) result ≡ first_item_of word.entry.now (texts after.entry.now) }
+    ensures item { option_map (λ p. (item_of p.0, texts p.1.now)) result
+        ≡ first_item_of word.entry.now (texts after.entry.now) }
     ensures behind { IfSome result (λ p. length p.1.now ≤ length after.entry.now) }
 {
     let name = word.strip_prefix("--")?;
@@ -56,7 +58,8 @@ fn first_item<'a>(word: &'a str, after: &'a [String]) -> Option<(Item<'a>, &'a [
 
 /// The items of the words, or none where a word stands outside an item.
 pub fn items_in<'a>(alloc: Global, words: &'a [String]) -> Result<Option<Vec<Item<'a>>>, AllocError>
-    ensures { IfOk result (λ found. option_map (λ v. map item_of v.items) found ≡ items_of (texts words.now)) }
+    ensures { IfOk result (λ found.
+        option_map (λ v. map item_of v.items) found ≡ items_of (texts words.now)) }
 {
     let mut items = Vec::new(alloc);
     let mut rest = words;

@@ -47,6 +47,3 @@ pub fn options(alloc: Global, words: &[String]) -> Result<Chosen, OptFault>
     }
     Ok(asked(alloc, command, &items)?)
 }
-
-#[cfg(test)]
-mod tests;

@@ -12,7 +12,8 @@ use clap::{Arg, ArgAction, ArgMatches, Error};
 use std::alloc::{AllocError, Global};
 
 fn argument<'a>(alloc: Global, rule: &Rule) -> Arg<'a>
-    ensures rule { clap.rule_of result ≡ clap_rule rule.now.name.now rule.now.required rule.now.form }
+    ensures rule { clap.rule_of result
+        ≡ clap_rule rule.now.name.now rule.now.required rule.now.form }
     ensures local { result.global ≡ false }
 {
     let arg = Arg::new(alloc, rule.name).long(rule.name);
@@ -40,8 +41,12 @@ pub fn read<'a>(
     command: Command,
     words: &'a [String],
 ) -> Result<ArgMatches<'a>, Error>
-    ensures values { IfOk result (λ m. (values : List Value) → texts words.entry.now ≡ spelled command values → IsRead command values → ReadsAll (rules_of command) values (rows_of (found_of m))) }
-    ensures refused { IfErr result (λ e. (values : List Value) → texts words.entry.now ≡ spelled command values → IsRead command values → kind_of e ≡ ErrorKind.OutOfMemory) }
+    ensures values { IfOk result (λ m. (values : List Value)
+        → texts words.entry.now ≡ spelled command values → IsRead command values
+        → ReadsAll (rules_of command) values (rows_of (found_of m))) }
+    ensures refused { IfErr result (λ e. (values : List Value)
+        → texts words.entry.now ≡ spelled command values → IsRead command values
+        → kind_of e ≡ ErrorKind.OutOfMemory) }
 {
     simple_command(alloc, command)?.try_get_matches_from(words)
 }

@@ -9,7 +9,8 @@ use crate::table::Command;
 use std::alloc::{AllocError, Global};
 
 fn item_named<'a>(items: &[Item<'a>], name: &str) -> Option<Item<'a>>
-    ensures { option_map (λ i. option_map (λ v. v.now) i.value) result ≡ at (map item_of items.now) name.now }
+    ensures { option_map (λ i. option_map (λ v. v.now) i.value) result
+        ≡ at (map item_of items.now) name.now }
 {
     for item in items {
         if item.name == name {
@@ -20,7 +21,8 @@ fn item_named<'a>(items: &[Item<'a>], name: &str) -> Option<Item<'a>>
 }
 
 fn word_for(alloc: Global, name: &str, value: Option<&str>) -> Result<String, AllocError>
-    ensures { IfOk result (λ word. string_bytes word ∷ [] ≡ words_for name.now (Some (option_map (λ v. v.now) value.entry))) }
+    ensures { IfOk result (λ word. string_bytes word ∷ []
+        ≡ words_for name.now (Some (option_map (λ v. v.now) value.entry))) }
 {
     match value {
         Some(value) => format!(in alloc; "--{name}={value}"),
@@ -30,7 +32,8 @@ fn word_for(alloc: Global, name: &str, value: Option<&str>) -> Result<String, Al
 
 /// The word of the command, and one word for each of its options that stands among the items.
 pub fn spelled(alloc: Global, command: Command, items: &[Item]) -> Result<Vec<String>, AllocError>
-    ensures { IfOk result (λ words. texts words.items ≡ spelled command (values_of command (at (map item_of items.now)))) }
+    ensures { IfOk result (λ words. texts words.items
+        ≡ spelled command (values_of command (at (map item_of items.now)))) }
 {
     let mut words = Vec::new(alloc);
     words.push(String::from_str(alloc, command.word())?)?;

@@ -90,7 +90,8 @@ fn dual_faces(alloc: Global, count: usize, faces: &[Ints]) -> Result<Vec<Ints>, 
     requires triangles { All (IsTriangle count) faces.now }
     requires nodes { count ≤ 1048576 }
     requires faces { length faces.now ≤ 1048576 }
-    ensures { IfOk result (λ out. out.items ≡ map (λ k. dual_face faces.now (pos (k + 1))) (range_with_len 0 count)) }
+    ensures { IfOk result (λ out.
+        out.items ≡ map (λ k. dual_face faces.now (pos (k + 1))) (range_with_len 0 count)) }
 {
     let holders = all_holders(alloc, count, faces)?;
     let mut out = Vec::with_capacity(alloc, count)?;

@@ -37,7 +37,9 @@ fn empty_lists(alloc: Global, count: usize) -> Result<Vec<Holders>, AllocError>
 fn put(lists: &mut Vec<Holders>, number: i32, t: u32) -> Result<(), AllocError>
     requires number { IsNumberTo (length lists.old.items) number }
     ensures count { OnOk result (length lists.new.items ≡ length lists.old.items) }
-    ensures lists { OnOk result ((q : ℕ) → q < length lists.old.items → slice_index_or lists.new.items q [] ≡ slice_index_or lists.old.items q [] ++ hit (pos (q + 1)) t number) }
+    ensures lists { OnOk result ((q : ℕ) → q < length lists.old.items
+        → slice_index_or lists.new.items q []
+        ≡ slice_index_or lists.old.items q [] ++ hit (pos (q + 1)) t number) }
 {
     let holders = &mut lists[number as usize - 1];
     holders.faces.push(t)?;
@@ -48,7 +50,9 @@ fn put(lists: &mut Vec<Holders>, number: i32, t: u32) -> Result<(), AllocError>
 fn put_face(lists: &mut Vec<Holders>, face: &[i32], t: u32) -> Result<(), AllocError>
     requires numbers { All (IsNumberTo (length lists.old.items)) face.now }
     ensures count { OnOk result (length lists.new.items ≡ length lists.old.items) }
-    ensures lists { OnOk result ((q : ℕ) → q < length lists.old.items → slice_index_or lists.new.items q [] ≡ slice_index_or lists.old.items q [] ++ hits (pos (q + 1)) t face.now) }
+    ensures lists { OnOk result ((q : ℕ) → q < length lists.old.items
+        → slice_index_or lists.new.items q []
+        ≡ slice_index_or lists.old.items q [] ++ hits (pos (q + 1)) t face.now) }
 {
     for number in face {
         put(lists, *number, t)?;

@@ -5,11 +5,10 @@ mod dual;
 mod faces;
 mod holders;
 mod icosahedron;
+mod laws;
 mod nodes;
 mod points;
 mod round;
-#[cfg(test)]
-mod tests;
 
 ghost use Rattle.std.specs.Prelude.{◌≡◌, ◌≤◌, ◌⊎◌, ◌*◌, All, Err, IfOk, OnOk, length};
 ghost use Rattle.vec_exact.specs.Counts.{AreAllowedCounts};
@@ -24,6 +23,7 @@ ghost use Rattle.gen_ico.specs.Holding.{IsSmallNode, IsTriangle};
 ghost use Rattle.gen_ico.specs.Made.{IsMade};
 
 use faces::all_faces;
+pub use laws::law_one_made;
 use mesh_check::{GenFault, Mesh, check_generated};
 use nodes::all_nodes;
 use std::alloc::{AllocError, Global};
@@ -77,9 +77,11 @@ pub fn make(alloc: Global, n: u32, dual: bool) -> Result<Mesh, GenFault>
     requires greatest { n ≤ 200 }
     ensures mesh { IfOk result (λ mesh. IsMade n dual mesh) }
     ensures accepted { IfOk result IsAcceptedMesh }
-    ensures fault { (fault : MeshFault) → result ≡ Err (FaultOfMesh fault) → (raw : RawMesh) × IsMade n dual raw × IsFirstMeshFault raw fault }
+    ensures fault { (fault : MeshFault) → result ≡ Err (FaultOfMesh fault)
+        → (raw : RawMesh) × IsMade n dual raw × IsFirstMeshFault raw fault }
     ensures outer { result ≡ Err (FaultOfMesh MeshNoMemory) → ⊥ }
-    ensures refused { (raw : RawMesh) (fault : MeshFault) → IsMade n dual raw → IsFirstMeshFault raw fault → (result ≡ Err (FaultOfMesh fault)) ⊎ (result ≡ Err NoMemory) }
+    ensures refused { (raw : RawMesh) (fault : MeshFault) → IsMade n dual raw → IsFirstMeshFault raw fault
+        → (result ≡ Err (FaultOfMesh fault)) ⊎ (result ≡ Err NoMemory) }
 {
     let raw = raw_mesh(alloc, n, dual)?;
     check_generated(alloc, raw)

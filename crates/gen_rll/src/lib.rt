@@ -3,8 +3,6 @@
 
 mod faces;
 mod nodes;
-#[cfg(test)]
-mod tests;
 mod trigonometry;
 
 ghost use Rattle.std.specs.Prelude.{◌≡◌, ◌≢◌, ◌≤◌, ◌⊎◌, ◌+◌, ◌-◌, ◌*◌, Err, IfErr, IfOk, OnOk, length};
@@ -60,9 +58,11 @@ pub fn make(alloc: Global, lon: u32, lat: u32) -> Result<Mesh, GenFault>
     ensures nodes { IfOk result (λ mesh. length mesh.nodes ≡ (lat - 1) * lon + 2) }
     ensures faces { IfOk result (λ mesh. length mesh.faces ≡ lat * lon) }
     ensures accepted { OnOk result (IsAcceptedMesh (latitude_longitude lon lat)) }
-    ensures fault { (fault : MeshFault) → result ≡ Err (FaultOfMesh fault) → IsFirstMeshFault (latitude_longitude lon lat) fault }
+    ensures fault { (fault : MeshFault) → result ≡ Err (FaultOfMesh fault)
+        → IsFirstMeshFault (latitude_longitude lon lat) fault }
     ensures outer { result ≡ Err (FaultOfMesh MeshNoMemory) → ⊥ }
-    ensures refused { (fault : MeshFault) → IsFirstMeshFault (latitude_longitude lon lat) fault → (result ≡ Err (FaultOfMesh fault)) ⊎ (result ≡ Err NoMemory) }
+    ensures refused { (fault : MeshFault) → IsFirstMeshFault (latitude_longitude lon lat) fault
+        → (result ≡ Err (FaultOfMesh fault)) ⊎ (result ≡ Err NoMemory) }
 {
     let raw = raw_mesh(alloc, lon, lat)?;
     check_generated(alloc, raw)

@@ -10,7 +10,7 @@ use Rattle.mesh_check.specs.declared.faults.MeshFault.{MeshFault}
 use Rattle.mesh_check.specs.declared.faults.MeshFault.TheVariants.{TooManyNodes, TooManyFaces, CoordRange, ZeroNode, NodeNumber, FaceSize, NotConvex, NoMemory}
 use Rattle.mesh_check.specs.declared.faults.GenFault.{GenFault}
 use Rattle.mesh_check.specs.declared.faults.GenFault.TheVariants.{Mesh, NoMemory as GenNoMemory}
-use Rattle.mesh_check.specs.Mesh.{IsGoodNode}
+use Rattle.mesh_check.specs.Mesh.{IsGoodNode, IsAcceptedMesh}
 
 -- the fault of a node count and a face count, or none
 abbrev pub count_fault : ℕ → ℕ → Option MeshFault
@@ -60,6 +60,11 @@ pub record IsFirstFaceFault (nodes faces : List (List ℤ)) (fault : MeshFault) 
 -- this is the first fault of a raw mesh: the nodes ascending, and where they are all good, the faces ascending
 abbrev pub IsFirstMeshFault : RawMesh → MeshFault → Type 0
 IsFirstMeshFault raw fault = IsFirstNodeFault raw.nodes fault ⊎ (All IsGoodNode raw.nodes × IsFirstFaceFault raw.nodes raw.faces fault)
+
+-- a raw mesh has at most one first fault, and none where it is accepted
+pub record OneMeshFault (raw : RawMesh) : Type 0 where
+  pub same : (f g : MeshFault) → IsFirstMeshFault raw f → IsFirstMeshFault raw g → f ≡ g
+  pub none : (f : MeshFault) → IsAcceptedMesh raw → IsFirstMeshFault raw f → ⊥
 
 -- the fault of a generator whose mesh has this fault: want of memory stays want of memory
 abbrev pub gen_fault_of : MeshFault → GenFault

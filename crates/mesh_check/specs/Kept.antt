@@ -1,4 +1,4 @@
--- Faces as the lists that they hold.
+-- Faces as the lists of numbers that they hold. Source: our own.
 use Rattle.std.specs.Prelude.{ℤ, List, map}
 use Rattle.smallvec.specs.SmallVec.{SmallVec}
 

@@ -2,14 +2,14 @@
 ghost use Rattle.std.specs.Prelude.{false, ◌≡◌, ◌≢◌, ◌<◌, ◌≤◌, ◌↔◌, pos, ◌<ℤ◌, All, IfErr, IfOk, OnOk, IsTrue, length};
 ghost use Rattle.vec_exact.specs.Vector.{inner};
 ghost use Rattle.vec_exact.specs.Size.{Is18, Is37};
-ghost use Rattle.vec_exact.specs.Cycle.{after, vector_at};
+ghost use Rattle.vec_exact.specs.Cycle.{vector_at};
 ghost use Rattle.vec_exact.specs.Counts.{AreAllowedCounts};
 ghost use Rattle.vec_exact.specs.Face.{node_of, face_nodes, IsNodeNumber, IsAccepted};
 ghost use Rattle.mesh_check.specs.Mesh.{IsGoodNode};
 ghost use Rattle.mesh_check.specs.FirstFault.{HasFaceSize, IsPositiveEdge, IsStrictlyConvex, IsFaceFault, IsFirstFaceFault};
 
 use crate::MeshFault;
-use vec_exact::{Ints, Vec3, cross, dot, vector};
+use vec_exact::{Ints, Vec3, cross, dot, next_place, vector};
 
 fn has_node_numbers(nodes: &[[i32; 3]], face: &[i32]) -> bool
     requires { length nodes.now ≤ 4194304 }
@@ -30,16 +30,6 @@ fn corner(nodes: &[[i32; 3]], face: &[i32], t: usize) -> Vec3
     vector(nodes[face[t] as usize - 1])
 }
 
-// The place after t in a cycle of `count` places, from 0.
-#[tactic(auto, using(vec_exact::proofs::Cycles::after_inner, vec_exact::proofs::Cycles::after_last))]
-pub fn next(count: usize, t: usize) -> usize
-    requires { t < count }
-    ensures value { result ≡ after count t }
-    ensures below { result < count }
-{
-    if t + 1 == count { 0 } else { t + 1 }
-}
-
 fn is_positive(plane: Vec3, node: Vec3) -> bool
     requires plane { Is37 plane }
     requires node { Is18 node }
@@ -55,7 +45,7 @@ fn is_positive_edge(nodes: &[[i32; 3]], face: &[i32], t: usize) -> bool
     ensures yes { IsTrue result → IsPositiveEdge (face_nodes nodes.now face.now) t }
     ensures no { result ≡ false → IsPositiveEdge (face_nodes nodes.now face.now) t → ⊥ }
 {
-    let next = next(face.len(), t);
+    let next = next_place(face.len(), t);
     let plane = cross(corner(nodes, face, t), corner(nodes, face, next));
     for s in 0..face.len() {
         if s != t && s != next && !is_positive(plane, corner(nodes, face, s)) {

@@ -22,9 +22,11 @@ pub fn check_generated(alloc: Global, raw: RawMesh) -> Result<Mesh, GenFault>
     requires counts { AreAllowedCounts (length raw.nodes) (length raw.faces) }
     ensures same { IfOk result (λ mesh. mesh ≡ raw) }
     ensures accepted { OnOk result (IsAcceptedMesh raw) }
-    ensures fault { (fault : MeshFault) → result ≡ Err (FaultOfMesh fault) → IsFirstMeshFault raw fault }
+    ensures fault { (fault : MeshFault) → result ≡ Err (FaultOfMesh fault)
+        → IsFirstMeshFault raw fault }
     ensures outer { result ≡ Err (FaultOfMesh MeshNoMemory) → ⊥ }
-    ensures refused { (fault : MeshFault) → IsFirstMeshFault raw fault → (result ≡ Err (FaultOfMesh fault)) ⊎ (result ≡ Err NoMemory) }
+    ensures refused { (fault : MeshFault) → IsFirstMeshFault raw fault
+        → (result ≡ Err (FaultOfMesh fault)) ⊎ (result ≡ Err NoMemory) }
 {
     let mesh = check(alloc, raw)?;
     Ok(mesh)

@@ -12,12 +12,12 @@ ghost use Rattle.mesh_check.specs.Mesh.{IsAcceptedMesh, face_of, corners_of, nod
 ghost use Rattle.mesh_check.specs.FirstFault.{IsFirstMeshFault};
 
 use crate::MeshFault;
-use crate::faces::{check_faces, next};
+use crate::faces::check_faces;
 use crate::nodes::check_nodes;
 use smallvec::SmallVec;
 use std::alloc::{AllocError, Global};
 use std::marker::Model;
-use vec_exact::{Faces, Ints, NoMemory, Nodes, RawMesh, Vec3, cross, vector};
+use vec_exact::{Faces, Ints, NoMemory, Nodes, RawMesh, Vec3, cross, next_place, vector};
 
 /// A mesh whose faces are all accepted: each has 3 to 16 nodes and is strictly convex.
 ///
@@ -92,7 +92,7 @@ pub fn plane(mesh: &Mesh, face: u32, edge: u32) -> Vec3
     ensures size { Is37 result }
     ensures nonzero { result ≢ zero_triple }
 {
-    let following = next(edge_count(mesh, face) as usize, edge as usize - 1) as u32 + 1;
+    let following = next_place(edge_count(mesh, face) as usize, edge as usize - 1) as u32 + 1;
     cross(
         vector(node(mesh, face, edge)),
         vector(node(mesh, face, following)),
@@ -141,7 +141,8 @@ pub fn check(alloc: Global, raw: RawMesh) -> Result<Mesh, MeshFault>
     ensures accepted { OnOk result (IsAcceptedMesh raw) }
     ensures fault { IfErr result (λ fault. fault ≢ MeshNoMemory → IsFirstMeshFault raw fault) }
     // and where the raw mesh has a fault, no mesh comes, and no other fault
-    ensures refused { (fault : FirstFault) → IsFirstMeshFault raw fault → (result ≡ Err fault) ⊎ (result ≡ Err MeshNoMemory) }
+    ensures refused { (fault : FirstFault) → IsFirstMeshFault raw fault
+        → (result ≡ Err fault) ⊎ (result ≡ Err MeshNoMemory) }
 {
     check_nodes(&raw.nodes.items)?;
     check_faces(&raw.nodes.items, &raw.faces.items)?;

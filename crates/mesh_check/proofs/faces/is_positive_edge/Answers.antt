@@ -16,8 +16,8 @@ plane_is f t next plane u v a b c d = d ∙ ap (λ (w : Vec3). cross w v) b ∙ 
 pub returns-then-not-is_positive-clause-no : goal.returns-then-not-is_positive-clause-no
 returns-then-not-is_positive-clause-no c =
     let f = face_nodes c.args.nodes.now c.args.face.now in
-    let n = next_is f (length c.args.face.now) c.args.t c.next-next.result (length-face_nodes c.args.nodes.now c.args.face.now) c.next-next.ensures.value in
-    let p = plane_is f c.args.t c.next-next.result c.cross-plane.result c.corner.result c.corner-2.result n c.corner.ensures.value c.corner-2.ensures.value c.cross-plane.ensures.value in
+    let n = next_is f (length c.args.face.now) c.args.t c.next_place-next.result (length-face_nodes c.args.nodes.now c.args.face.now) c.next_place-next.ensures.value in
+    let p = plane_is f c.args.t c.next_place-next.result c.cross-plane.result c.corner.result c.corner-2.result n c.corner.ensures.value c.corner-2.ensures.value c.cross-plane.ensures.value in
     λ _ h.
     let positive = plane_positive f c.args.t h c.loop-s.s (omega (arith, length-face_nodes c.args.nodes.now c.args.face.now)) c.if-s-t.true (λ e. c.if-s-next.true (e ∙ sym n)) in
     let side : inner c.cross-plane.result c.corner-then-s-next.result ≡ inner (face_plane f c.args.t) (vector_at f c.loop-s.s) =
@@ -28,7 +28,7 @@ returns-then-not-is_positive-clause-no c =
 pub returns-clause-yes : goal.returns-clause-yes
 returns-clause-yes c =
     let f = face_nodes c.args.nodes.now c.args.face.now in
-    let n = next_is f (length c.args.face.now) c.args.t c.next-next.result (length-face_nodes c.args.nodes.now c.args.face.now) c.next-next.ensures.value in
-    let p = plane_is f c.args.t c.next-next.result c.cross-plane.result c.corner.result c.corner-2.result n c.corner.ensures.value c.corner-2.ensures.value c.cross-plane.ensures.value in
+    let n = next_is f (length c.args.face.now) c.args.t c.next_place-next.result (length-face_nodes c.args.nodes.now c.args.face.now) c.next_place-next.ensures.value in
+    let p = plane_is f c.args.t c.next_place-next.result c.cross-plane.result c.corner.result c.corner-2.result n c.corner.ensures.value c.corner-2.ensures.value c.cross-plane.ensures.value in
     λ _. positive_by_plane f c.args.t (λ s l a b. subst (λ (w : Vec3). pos 0 <ℤ inner w (vector_at f s)) p
     (c.loop-s.invariant s (omega (arith, length-face_nodes c.args.nodes.now c.args.face.now)) a (λ e. b (e ∙ n))))

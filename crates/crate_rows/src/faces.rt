@@ -1,7 +1,7 @@
 // That a mesh comes where it is to, and worked faults.
 ghost use Rattle.std.specs.Prelude.{◌≡◌, IfOk, length};
 
-use super::*;
+use mesh_check::{MeshFault, check, edge_count, face_count, node, node_count, plane, raw};
 use std::alloc::{AllocError, Global};
 use std::test::Fail;
 use vec_exact::{Faces, Ints, Nodes, RawMesh, Vec3};

@@ -1,6 +1,6 @@
 // Words of the command line, and what they ask for.
-use super::*;
-use std::alloc::AllocError;
+use command_line::{Chosen, OptFault, options};
+use std::alloc::{AllocError, Global};
 use std::test::Fail;
 
 // Words, and the command with its options in the order of the fields.

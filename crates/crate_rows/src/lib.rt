@@ -1,0 +1,12 @@
+//! Worked rows of single crates: words, faces, generated meshes.
+//!
+//! It has tests alone. A crate that has tests of its own is proved a second time with them, so that
+//! the tests of several crates stand here.
+#![tactic(auto)]
+
+#[cfg(test)]
+mod faces;
+#[cfg(test)]
+mod generated;
+#[cfg(test)]
+mod words;
