@@ -7,6 +7,8 @@ mod edges;
 mod laws;
 mod overlaps;
 mod reporting;
+#[cfg(test)]
+mod tests;
 
 pub use laws::law_six_faces_decide;
 pub use reporting::{MeshReport, report};
