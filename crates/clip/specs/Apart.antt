@@ -1,5 +1,5 @@
 -- Faces that the plane of an edge keeps apart. A face is given by its nodes in order. Source: our own.
-use Rattle.std.specs.Prelude.{ℕ, ◌<◌, pos, ◌≤ℤ◌, ◌⊎◌, List, length}
+use Rattle.std.specs.Prelude.{ℕ, ◌<◌, pos, ◌≤ℤ◌, List, length}
 use Rattle.vec_exact.specs.declared.Vec3.{Vec3}
 use Rattle.vec_exact.specs.Vector.{inner}
 use Rattle.vec_exact.specs.Cycle.{vector_at, face_plane}
@@ -11,7 +11,3 @@ IsBeyond plane face = (s : ℕ) → s < length face → inner plane (vector_at f
 -- some edge of f has no node of g on its positive side
 abbrev pub KeepsOff : List Vec3 → List Vec3 → Type 0
 KeepsOff f g = (t : ℕ) × (t < length f) × IsBeyond (face_plane f t) g
-
--- some edge of one of the two faces has no node of the other on its positive side
-abbrev pub AreKeptApart : List Vec3 → List Vec3 → Type 0
-AreKeptApart f g = KeepsOff f g ⊎ KeepsOff g f

@@ -12,7 +12,6 @@ mod overlap;
 mod pairs;
 mod pieces;
 mod rings;
-mod separation;
 mod sides;
 #[cfg(test)]
 mod tests;
@@ -20,9 +19,8 @@ mod tests;
 pub use columns::{Columns, PieceList, Place};
 pub use forms::{CornerForm, corner_form};
 pub use lists::{PlaneList, Ring, corner};
-pub use outlines::{Outline, outline_of};
+pub use outlines::{Outline, outline_of, read_outline};
 pub use overlap::Overlap;
 pub use pairs::{clip, clip_outlines, is_ring, planes};
 pub use pieces::{Corners, Piece, Pieces};
 pub use rings::{cut, start};
-pub use separation::are_kept_apart;

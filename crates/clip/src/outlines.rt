@@ -27,32 +27,50 @@ pub struct Outline {
     pub planes: NarrowList,
 }
 
+impl Outline {
+    /// An outline of no face yet.
+    pub fn new() -> Self {
+        Outline {
+            nodes: NarrowList::new(),
+            planes: NarrowList::new(),
+        }
+    }
+}
+
 // The nodes of a face, in order.
-fn nodes_in(mesh: &Mesh, face: u32, count: u32) -> NarrowList
+fn read_nodes(mesh: &Mesh, face: u32, count: u32, nodes: &mut NarrowList)
     requires face { IsFaceNumber mesh.now face }
     requires count { count ≡ length (corners_of mesh.now face) }
     requires greatest { count ≤ 16 }
-    ensures { wide_list result.items ≡ corners_of mesh.now face }
+    ensures { wide_list nodes.new.items ≡ corners_of mesh.now face }
 {
-    let mut nodes = NarrowList::new();
+    nodes.clear();
     for t in 0..count {
         nodes.push(narrow_of(node(mesh, face, t + 1)));
     }
-    nodes
 }
 
 // The planes of the edges of a face, in order.
-fn planes_in(nodes: &[NarrowVec3]) -> NarrowList
+fn make_planes(nodes: &[NarrowVec3], planes: &mut NarrowList)
     requires greatest { length nodes.now ≤ 16 }
     requires nodes { AreNodeSized nodes.now }
-    ensures { wide_list result.items ≡ face_planes (wide_list nodes.now) }
+    ensures { wide_list planes.new.items ≡ face_planes (wide_list nodes.now) }
 {
-    let mut planes = NarrowList::new();
+    planes.clear();
     for t in 0..nodes.len() {
         let following = next_place(nodes.len(), t);
         planes.push(narrow_cross(nodes[t], nodes[following]));
     }
-    planes
+}
+
+/// Reads the face with this number, which counts from 1, in place of what the outline held.
+pub fn read_outline(mesh: &Mesh, face: u32, outline: &mut Outline)
+    requires { IsFaceNumber mesh.now face }
+    ensures nodes { nodes_of outline.new ≡ corners_of mesh.now face }
+    ensures outline { IsOutline outline.new }
+{
+    read_nodes(mesh, face, edge_count(mesh, face), &mut outline.nodes);
+    make_planes(outline.nodes.as_slice(), &mut outline.planes);
 }
 
 /// The face with this number, which counts from 1.
@@ -61,9 +79,9 @@ pub fn outline_of(mesh: &Mesh, face: u32) -> Outline
     ensures nodes { nodes_of result ≡ corners_of mesh.now face }
     ensures outline { IsOutline result }
 {
-    let nodes = nodes_in(mesh, face, edge_count(mesh, face));
-    let planes = planes_in(nodes.as_slice());
-    Outline { nodes, planes }
+    let mut outline = Outline::new();
+    read_outline(mesh, face, &mut outline);
+    outline
 }
 
 /// How many nodes the face has.

@@ -10,6 +10,7 @@ use Rattle.clip.specs.declared.columns.Place.{Place}
 use Rattle.clip.specs.Overlaps.{IsSoundPiece}
 use Rattle.overlap_run.specs.declared.blocks.Block.{Block}
 use Rattle.overlap_run.specs.declared.blocks.Stretch.{Stretch}
+use Rattle.overlap_run.specs.declared.blocks.Waiting.{Waiting}
 use Rattle.overlap_run.specs.Pairs.{FacePair, DoMeet, AreExactly, IsCountOf}
 use Rattle.overlap_run.specs.Whole.{pair_of, IsPieceOf}
 
@@ -79,6 +80,19 @@ StandsIn Holds IsBehind list stretch pieces = (before after : List Piece) × Hol
 abbrev pub HoldsSome : {C : Type 0} → (C → List Piece → Type 0) → C → Type 0
 HoldsSome Holds list = (pieces : List Piece) × Holds list pieces
 
--- block number n + t was put in one of the lists, which has its pieces
-abbrev pub IsBlockInLists : {C : Type 0} → (C → List Piece → Type 0) → (List Piece → Place → Type 0) → RawMesh → RawMesh → List C → ℕ → ℕ → Placed (Block Stretch) → Type 0
-IsBlockInLists Holds IsBehind a b lists n t placed = IsPlacedBy (λ list t block. IsNumberedBlock (StandsIn Holds IsBehind list) a b (n + t) block) lists t placed
+-- the block with this number, whose pieces were put behind those of the worker's other blocks: how many there are, and where they stand, unless the worker let its list go
+pub record IsWaitingBlock {C : Type 0} (Holds : C → List Piece → Type 0) (IsBehind : List Piece → Place → Type 0) (own : Waiting C) (a b : RawMesh) (s : ℕ) (block : Block Stretch) : Type 0 where
+  pub counted : IsNumberedBlock (λ _ _. Unit {0}) a b s block
+  pub stands : own.count ≤ 8388608 → IsNumberedBlock (StandsIn Holds IsBehind own.pieces) a b s block
+
+-- block s waits with one of the workers
+abbrev pub DoesBlockWait : {C : Type 0} → (C → List Piece → Type 0) → (List Piece → Place → Type 0) → RawMesh → RawMesh → List (Waiting C) → ℕ → Placed (Block Stretch) → Type 0
+DoesBlockWait Holds IsBehind a b workers s placed = IsPlacedBy (λ own t block. IsWaitingBlock Holds IsBehind own a b t block) workers s placed
+
+-- the worker has kept its list
+abbrev pub HasList : {C : Type 0} → Waiting C → Type 0
+HasList own = own.count ≤ 8388608
+
+-- so many pairs meet in the first s blocks
+abbrev pub IsFirstCount : RawMesh → RawMesh → ℕ → ℕ → Type 0
+IsFirstCount a b s n = AreFirstBlocks {C = Unit {0}} (λ _ _. Unit {0}) a b s (record { count = n; pieces = tt })

@@ -4,7 +4,7 @@ ghost use Rattle.vec_exact.specs.declared.RawMesh.{RawMesh};
 ghost use Rattle.cell_index.specs.IndexOf.{IsIndexOf};
 ghost use Rattle.clip.specs.declared.pieces.Piece.{Piece};
 ghost use Rattle.overlap_run.specs.declared.blocks.Stretch.{Stretch};
-ghost use Rattle.overlap_run.specs.Parts.{IsBlockOf, IsNumberedBlock, TakesBlock, StandsIn, HoldsSome, DoMeetWithin, clip_count};
+ghost use Rattle.overlap_run.specs.Parts.{IsBlockOf, IsNumberedBlock, IsWaitingBlock, TakesBlock, StandsIn, HoldsSome, DoMeetWithin, clip_count};
 
 use crate::Gate;
 use crate::faces::clip_face;
@@ -13,13 +13,13 @@ use clip::{PieceList, Pieces, Place};
 use mesh_check::{Mesh, face_count};
 use std::alloc::Global;
 use std::sync::ledger::Ledger;
-use vec_exact::{NoMemory, Steps};
+use vec_exact::{MAX_PIECES, NoMemory, Steps};
 
 // Block s, from 0, holds the source faces from 64 s + 1 to 64 s + 64, as far as the mesh has them.
 pub const BLOCK_SIZE: u32 = 64;
 
 // An overlap has at most this many pieces.
-pub const GREATEST_COUNT: u64 = 8_388_608;
+pub const GREATEST_COUNT: u64 = MAX_PIECES as u64;
 
 /// How many pieces some source faces have, and the pieces in ascending order of source face and
 /// then of target face. Where there are more than 8,388,608, none is kept.
@@ -70,7 +70,7 @@ pub fn clip_block<C: PieceList, L: Ledger>(
 }
 
 // Where some pieces of a list stand: from one place to another.
-#[derive(Clone, Copy)]
+#[derive(Clone, Copy, Default)]
 pub struct Stretch {
     pub from: Place,
     pub to: Place,
@@ -120,11 +120,45 @@ pub fn take_block<C: PieceList>(
     Ok(())
 }
 
+// The pieces of all blocks of one worker, in the order in which it did them.
+#[derive(Drop)]
+pub struct Waiting<C> {
+    // how many pairs there are
+    pub count: u64,
+    // their pieces, or none where there are more than an overlap may have
+    pub pieces: C,
+}
+
+// Puts the pieces of a block behind those of the worker's blocks so far. The answer is the block with
+// where they stand there. A worker whose own count passes the limit lets its list go and counts on.
+pub fn put_block<C: PieceList>(
+    alloc: Global,
+    own: &mut Waiting<C>,
+    block: Block<C>,
+) -> Result<Block<Stretch>, NoMemory>
+    requires own { HoldsSome C.holds own.old.pieces }
+    requires block { HoldsSome C.holds block.pieces }
+    ensures block { IfOk result (λ put. (a b : RawMesh) → (s : ℕ) → IsNumberedBlock C.holds a b s block → IsWaitingBlock C.holds C.is_behind own.new a b s put) }
+    ensures kept { OnOk result ((a b : RawMesh) (s : ℕ) (put : Block Stretch) → IsWaitingBlock C.holds C.is_behind own.old a b s put → IsWaitingBlock C.holds C.is_behind own.new a b s put) }
+    ensures own { OnOk result (HoldsSome C.holds own.new.pieces) }
+{
+    own.count = own.count.saturating_add(block.count);
+    if own.count > GREATEST_COUNT {
+        own.pieces = C::none(alloc);
+        return Ok(Block {
+            count: block.count,
+            pieces: Stretch::default(),
+        });
+    }
+    put_pieces(&mut own.pieces, block)
+}
+
 // Puts the pieces of a block at the end of a list. The answer is the block with where they stand
 // there.
-pub fn put_block<C: PieceList>(list: &mut C, block: Block<C>) -> Result<Block<Stretch>, NoMemory>
+fn put_pieces<C: PieceList>(list: &mut C, block: Block<C>) -> Result<Block<Stretch>, NoMemory>
     requires list { HoldsSome C.holds list.old }
     requires pieces { HoldsSome C.holds block.pieces }
+    ensures count { IfOk result (λ put. put.count ≡ block.count) }
     ensures block { IfOk result (λ put. (a b : RawMesh) → (s : ℕ) → IsNumberedBlock C.holds a b s block → IsNumberedBlock (StandsIn C.holds C.is_behind list.new) a b s put) }
     ensures kept { OnOk result ((stretch : Stretch) (pieces : List Piece) → StandsIn C.holds C.is_behind list.old stretch pieces → StandsIn C.holds C.is_behind list.new stretch pieces) }
     ensures list { OnOk result (HoldsSome C.holds list.new) }

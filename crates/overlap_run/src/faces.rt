@@ -11,7 +11,7 @@ ghost use Rattle.overlap_run.specs.Parts.{AddsPiece, TakesPair, IsBlockOf, DoMee
 use crate::Block;
 use crate::blocks::GREATEST_COUNT;
 use crate::rings::piece_of_ring;
-use clip::{Outline, PieceList, Ring, clip_outlines, outline_of};
+use clip::{Outline, PieceList, Ring, clip_outlines, outline_of, read_outline};
 use mesh_check::Mesh;
 use std::alloc::Global;
 use std::sync::ledger::Ledger;
@@ -50,7 +50,8 @@ fn add_piece<C: PieceList>(
     Ok(())
 }
 
-// Clips face i of `a` with face j of `b`, and counts the pair where they meet.
+// Clips face i of `a` with face j of `b`, which is read into `g`, and counts the pair where they
+// meet.
 fn clip_pair<C: PieceList, L: Ledger>(
     alloc: Global,
     a: &Mesh,
@@ -58,6 +59,7 @@ fn clip_pair<C: PieceList, L: Ledger>(
     f: &Outline,
     b: &Mesh,
     j: u32,
+    g: &mut Outline,
     block: &mut Block<C>,
     steps: &mut Steps<L>,
 ) -> Result<(), NoMemory>
@@ -70,11 +72,11 @@ fn clip_pair<C: PieceList, L: Ledger>(
     ensures few { OnOk result (block.new.count ≤ block.old.count + 1) }
     ensures tick { steps.new ≡ steps.old + 1 }
 {
-    let g = outline_of(b, j);
-    let Some(ring) = clip_outlines(f, &g, a, i, b, j, steps) else {
+    read_outline(b, j, g);
+    let Some(ring) = clip_outlines(f, g, a, i, b, j, steps) else {
         return Ok(());
     };
-    add_piece(alloc, a, i, f, b, j, &g, ring, block)
+    add_piece(alloc, a, i, f, b, j, g, ring, block)
 }
 
 // Clips face i of `a` with each of the targets, which are face numbers of `b` in ascending order.
@@ -101,8 +103,9 @@ pub fn clip_face<C: PieceList, L: Ledger>(
     ensures most { steps.new ≤ steps.old + length targets.now }
 {
     let f = outline_of(a, i);
+    let mut g = Outline::new();
     for j in targets {
-        clip_pair(alloc, a, i, &f, b, *j, block, steps)?;
+        clip_pair(alloc, a, i, &f, b, *j, &mut g, block, steps)?;
     }
     Ok(())
 }

@@ -2,7 +2,6 @@
 #![tactic(auto)]
 
 mod blocks;
-mod counting;
 mod faces;
 mod faults;
 mod gates;
@@ -13,7 +12,9 @@ mod run;
 mod tests;
 mod workers;
 
-pub use block_claims::{ClaimWord, Ticket, claims, draw, is_done, last_word, last_word_of, rejoin, split};
+pub use block_claims::{
+    ClaimWord, Ticket, claims, draw, is_done, last_word, last_word_of, rejoin, split,
+};
 pub use blocks::{Block, clip_block};
 pub use faults::RunFault;
 pub use gates::{Gate, OpenGate};

@@ -17,7 +17,7 @@ use std::thread::Threads;
 use vec_exact::{NoMemory, Steps};
 
 // All blocks, ascending, on the calling thread, as one.
-fn ascending<C: PieceList, G: Gate, L: Ledger>(
+pub fn ascending<C: PieceList, G: Gate, L: Ledger>(
     alloc: Global,
     a: &Mesh,
     b: &Mesh,
