@@ -22,7 +22,7 @@ def run(main):
     name = sys.argv[0].rsplit("/", 1)[-1]
     try:
         main()
-    except (Fault, OSError) as fault:
+    except (Fault, OSError, RuntimeError) as fault:  # netCDF4's own faults are of the last kind
         sys.exit(f"{name}: {fault}")
     except MemoryError:
         sys.exit(f"{name}: no memory")

@@ -67,14 +67,20 @@ def connect_blocks(file):
     if "num_el_blk" not in file.dimensions:
         raise Fault(f"{file.filepath()}: missing num_el_blk")
     count = len(file.dimensions["num_el_blk"])
+    if count == 0:
+        raise Fault(f"{file.filepath()}: no faces")
     return [(number, values(file, f"connect{number}")) for number in range(1, count + 1)]
 
 
 def coordinates(file):
     """The coordinates of an Exodus file, one node a row."""
     if "coord" in file.variables:
-        return values(file, "coord").T
-    return np.stack([values(file, name) for name in ("coordx", "coordy", "coordz")], axis=1)
+        name, rows = "coord", list(values(file, "coord"))
+    else:
+        name, rows = "coordx", [values(file, name) for name in ("coordx", "coordy", "coordz")]
+    if len(rows) != 3 or len({row.shape for row in rows}) != 1 or rows[0].ndim != 1:
+        raise Fault(f"{file.filepath()}: shape of {name}")
+    return np.stack(rows, axis=1)
 
 
 def read_mesh(path):

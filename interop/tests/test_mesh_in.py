@@ -202,3 +202,12 @@ def test_the_exact_test_agrees_with_plain_whole_numbers():
 
     wanted = [place for place, row in enumerate(corners) if not convex(nodes[row])]
     assert mesh.not_convex(nodes, corners, np.full(500, 4)).tolist() == wanted
+
+
+def test_an_exodus_file_without_coordinates_of_three_is_refused(tools):
+    with netCDF4.Dataset(tools.path("in.g"), "w", format="NETCDF3_64BIT_OFFSET") as file:
+        for name, length in (("num_nodes", 3), ("two", 2), ("num_el_blk", 1)):
+            file.createDimension(name, length)
+        file.createVariable("coord", "f8", ("two", "num_nodes"))[:] = 1.0
+    assert tools.refused("mesh_in", "in.g", "out.g") == "mesh_in: in.g: shape of coord\n"
+    assert tools.refused("plot", "mesh", "in.g", "out.png") == "plot: in.g: shape of coord\n"

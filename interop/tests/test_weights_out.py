@@ -4,6 +4,8 @@ import numpy as np
 import pytest
 from conftest import values
 
+from interop import mesh
+
 MESHES = {
     "cube": ("GenerateCSMesh", "--res", 10),
     "ring": ("GenerateRLLMesh", "--lon", 36, "--lat", 18),
@@ -100,6 +102,27 @@ def test_both_styles_hold_one_map(cube_and_ring):
     assert matrix[0].sum(axis=1) == pytest.approx(np.ones(648), abs=1e-14)
     assert (area_b * frac_b) @ matrix[0] == pytest.approx(area_a, rel=1e-13)
     assert area_a.sum() == pytest.approx(4 * np.pi, rel=1e-6)
+
+
+def test_a_target_that_is_covered_in_part(tools):
+    """The northern panel of a cube over the four northern octants, of which it covers the middle."""
+    tools.tempest("GenerateCSMesh", "--res", 4, "--file", "cube.g")
+    tools.tempest("GenerateRLLMesh", "--lon", 4, "--lat", 2, "--file", "octants.g")
+    for name, out, kept in (("cube.g", "a.g", slice(64, 80)), ("octants.g", "b.g", slice(4, 8))):
+        whole = mesh.read_mesh(tools.path(name))
+        part = mesh.Mesh(whole.nodes, whole.corners[kept], whole.sizes[kept])
+        mesh.write_mesh(tools.path(out), part)
+    tools.map_of("a.g", "b.g")
+    words = ("map.nc", "w.nc", "--source", "a.g", "--target", "b.g", "--style", "esmf")
+    tools.interop("weights_out", *words)
+    with netCDF4.Dataset(tools.path("w.nc")) as file:
+        file.set_auto_mask(False)
+        names = ("area_a", "frac_a", "area_b", "frac_b", "S", "row")
+        area_a, frac_a, area_b, frac_b, weights, row = (file[name][...] for name in names)
+    assert np.all(frac_a == 1.0) and area_a.sum() == pytest.approx(4 * np.pi / 6, rel=1e-6)
+    assert area_b == pytest.approx(np.pi / 2, rel=1e-9)
+    assert frac_b == pytest.approx(1.0 / 3.0, rel=1e-6)
+    assert np.bincount(row - 1, weights) == pytest.approx(1.0)
 
 
 def test_a_map_of_other_meshes_is_refused(cube_and_ring):
