@@ -84,9 +84,11 @@ pub fn draw(claims: &ClaimWord, ticket: &mut Ticket) -> Option<u32>
     ensures ours { IsTicketOf claims.now ticket.new }
     ensures block { IfSome result (λ s. s < claims.now.blocks) }
     ensures fresh { IfSome result (λ s. ¬ Contains ticket.old.view.mine s) }
-    ensures drawn { IfSome result (λ s. ticket.new.view ≡ record ticket.old.view { mine = ticket.old.view.mine ++ s ∷ [] }) }
+    ensures drawn { IfSome result (λ s. ticket.new.view
+        ≡ record ticket.old.view { mine = ticket.old.view.mine ++ s ∷ [] }) }
     // it found the word at the number of blocks or past it, and keeps what it found
-    ensures none_left { IfNone result ((old : ℕ) × (claims.now.blocks ≤ old) × (ticket.new.view ≡ record ticket.old.view { last = Some old })) }
+    ensures none_left { IfNone result ((old : ℕ) × (claims.now.blocks ≤ old)
+        × (ticket.new.view ≡ record ticket.old.view { last = Some old })) }
     ensures whole { IsWhole ticket.new.view }
     ensures few { length ticket.new.view.mine ≤ claims.now.blocks }
 {
@@ -148,7 +150,8 @@ pub fn last_word(claims: ClaimWord) -> u64
 /// tickets that were made. It takes no memory.
 pub fn last_word_of(claims: ClaimWord, ticket: Ticket) -> u64
     requires { IsTicketOf claims ticket }
-    ensures { (views : List Viewed) × IsClaimed claims.blocks result views × Contains views ticket.view }
+    ensures { (views : List Viewed) × IsClaimed claims.blocks result views
+        × Contains views ticket.view }
 {
     let ClaimWord { table, blocks: _ } = claims;
     let Ticket { seat, done: _ } = ticket;

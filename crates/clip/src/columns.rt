@@ -35,10 +35,12 @@ pub trait PieceList: Sized + Drop {
     fn none(alloc: Global) -> Self
         ensures { holds result [] };
 
-    /// Puts a piece at the end. Its face numbers are below 2^31.
+    /// Puts a piece at the end. Its face numbers are below 2^31. After an error the list is of no
+    /// further use: part of the piece may be in it. So it is with the other calls that put pieces.
     fn push(&mut self, piece: Piece) -> Result<(), NoMemory>
         requires { HasSmallNumbers piece }
-        ensures { (pieces : List OnePiece) → holds self.old pieces → OnOk result (holds self.new (pieces ++ piece ∷ [])) };
+        ensures { (pieces : List OnePiece) → holds self.old pieces
+            → OnOk result (holds self.new (pieces ++ piece ∷ [])) };
 
     /// Puts the pieces of another list at the end.
     fn append(&mut self, other: Self) -> Result<(), NoMemory>
@@ -65,7 +67,8 @@ pub trait PieceList: Sized + Drop {
 
 // The elements from place `from` up to place `to`, or none where there is no such part.
 fn part<T>(elements: &[T], from: usize, to: usize) -> &[T]
-    ensures within { from ≤ to → to ≤ length elements.now → result.now ≡ slice_range elements.now from to }
+    ensures within { from ≤ to → to ≤ length elements.now
+        → result.now ≡ slice_range elements.now from to }
     ensures outside { ¬ ((from ≤ to) × (to ≤ length elements.now)) → result.now ≡ [] }
 {
     elements.get(from..to).unwrap_or(&[])
@@ -158,7 +161,8 @@ pub struct Columns {
 
 fn put_ring(numbers: &mut Vec<i8>, ring: &Ring) -> Result<(), NoMemory>
     requires { All IsRingNumber ring.now.items }
-    ensures { OnOk result (numbers.new.items ≡ numbers.old.items ++ map (λ n. pos n) ring.now.items) }
+    ensures { OnOk result (numbers.new.items
+        ≡ numbers.old.items ++ map (λ n. pos n) ring.now.items) }
 {
     for number in ring.as_slice() {
         numbers.push(*number as i8)?;
@@ -176,7 +180,8 @@ fn put_corner(numbers: &mut Vec<i32>, corner: &[i32; 3]) -> Result<(), NoMemory>
 }
 
 fn put_corners(numbers: &mut Vec<i32>, corners: &Corners) -> Result<(), NoMemory>
-    ensures { OnOk result (numbers.new.items ≡ numbers.old.items ++ flat_map triple_of corners.now) }
+    ensures { OnOk result (numbers.new.items
+        ≡ numbers.old.items ++ flat_map triple_of corners.now) }
 {
     for corner in corners.items.as_slice() {
         put_corner(numbers, corner)?;

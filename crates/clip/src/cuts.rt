@@ -18,7 +18,8 @@ use vec_exact::next_place;
 // The ring of the edges of `f`: the numbers from 1 on. `g` stands in the contract alone.
 fn start_outline(f: &Outline, g: &Outline) -> Ring
     requires f { IsOutline f.now }
-    ensures { IsRingOfFirst (planes_of_pair (nodes_of f.now) (nodes_of g.now)) (length (nodes_of f.now)) result.items }
+    ensures { let planes = planes_of_pair (nodes_of f.now) (nodes_of g.now) in
+        IsRingOfFirst planes (length (nodes_of f.now)) result.items }
 {
     let mut ring = Ring::new();
     for i in 0..count_of(f) as u8 {
@@ -30,13 +31,17 @@ fn start_outline(f: &Outline, g: &Outline) -> Ring
 // `fill_gap` for the planes of two faces, which stand in the contract alone.
 fn fill_outline_gap(f: &Outline, g: &Outline, ring: &mut Ring, sides: &[i8], m: u8, t: usize)
     requires room { 1 ≤ m × m ≤ 32 }
-    requires cycle { IsCycle (plane (planes_of_pair (nodes_of f.now) (nodes_of g.now))) (m - 1) (length ring.old.items) (slice_index ring.old.items) }
-    requires sides { HaveSigns (planes_of_pair (nodes_of f.now) (nodes_of g.now)) ring.old.items (plane (planes_of_pair (nodes_of f.now) (nodes_of g.now)) m) sides.now }
+    requires cycle { IsCycle (plane (planes_of_pair (nodes_of f.now) (nodes_of g.now))) (m - 1)
+        (length ring.old.items) (slice_index ring.old.items) }
+    requires sides { HaveSigns (planes_of_pair (nodes_of f.now) (nodes_of g.now)) ring.old.items
+        (plane (planes_of_pair (nodes_of f.now) (nodes_of g.now)) m) sides.now }
     requires place { t < length sides.now }
     requires not_positive { slice_index_or sides.now t (pos 0) ≤ℤ pos 0 }
     requires positive { pos 0 <ℤ slice_index_or sides.now (after (length sides.now) t) (pos 0) }
-    requires negative { (s : ℕ) × s < length sides.now × slice_index_or sides.now s (pos 0) <ℤ pos 0 }
-    ensures { IsCycle (plane (planes_of_pair (nodes_of f.now) (nodes_of g.now))) m (length ring.new.items) (slice_index ring.new.items) }
+    requires negative { (s : ℕ) × s < length sides.now
+        × slice_index_or sides.now s (pos 0) <ℤ pos 0 }
+    ensures { IsCycle (plane (planes_of_pair (nodes_of f.now) (nodes_of g.now))) m
+        (length ring.new.items) (slice_index ring.new.items) }
 {
     let first = next_place(sides.len(), t);
     let kept = positive_run(sides, first);
@@ -50,9 +55,12 @@ fn cut_outline(f: &Outline, g: &Outline, ring: &mut Ring, u: usize) -> bool
     requires f { IsOutline f.now }
     requires g { IsOutline g.now }
     requires place { u < length (nodes_of g.now) }
-    requires ring { IsRingOfFirst (planes_of_pair (nodes_of f.now) (nodes_of g.now)) (length (nodes_of f.now) + u) ring.old.items }
-    ensures decided { IsTrue result ↔ HasInside (planes_of_pair (nodes_of f.now) (nodes_of g.now)) (length (nodes_of f.now) + u + 1) }
-    ensures ring { IsTrue result → IsRingOfFirst (planes_of_pair (nodes_of f.now) (nodes_of g.now)) (length (nodes_of f.now) + u + 1) ring.new.items }
+    requires ring { let planes = planes_of_pair (nodes_of f.now) (nodes_of g.now) in
+        IsRingOfFirst planes (length (nodes_of f.now) + u) ring.old.items }
+    ensures decided { let planes = planes_of_pair (nodes_of f.now) (nodes_of g.now) in
+        IsTrue result ↔ HasInside planes (length (nodes_of f.now) + u + 1) }
+    ensures ring { let planes = planes_of_pair (nodes_of f.now) (nodes_of g.now) in
+        IsTrue result → IsRingOfFirst planes (length (nodes_of f.now) + u + 1) ring.new.items }
 {
     let all_sides = signs_on(f, g, ring, plane_of(g, u));
     let sides = all_sides.as_slice();
@@ -75,7 +83,8 @@ fn ring_of_cuts(f: &Outline, g: &Outline, cuts: &[bool]) -> Option<Ring>
     requires f { IsOutline f.now }
     requires g { IsOutline g.now }
     requires cuts { AreCuts (nodes_of f.now) (nodes_of g.now) cuts.now }
-    ensures { MatchOption result (¬ Meets (nodes_of f.now) (nodes_of g.now)) (λ ring. IsRing (nodes_of f.now) (nodes_of g.now) ring.items) }
+    ensures { MatchOption result (¬ Meets (nodes_of f.now) (nodes_of g.now))
+        (λ ring. IsRing (nodes_of f.now) (nodes_of g.now) ring.items) }
 {
     let mut ring = start_outline(f, g);
     for u in 0..cuts.len() {
@@ -92,7 +101,8 @@ fn ring_of_cuts(f: &Outline, g: &Outline, cuts: &[bool]) -> Option<Ring>
 pub fn ring_of_outlines(f: &Outline, g: &Outline) -> Option<Ring>
     requires f { IsOutline f.now }
     requires g { IsOutline g.now }
-    ensures { MatchOption result (¬ Meets (nodes_of f.now) (nodes_of g.now)) (λ ring. IsRing (nodes_of f.now) (nodes_of g.now) ring.items) }
+    ensures { MatchOption result (¬ Meets (nodes_of f.now) (nodes_of g.now))
+        (λ ring. IsRing (nodes_of f.now) (nodes_of g.now) ring.items) }
 {
     if outline_keeps_off(f, g) {
         return None;

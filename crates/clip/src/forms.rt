@@ -36,7 +36,8 @@ fn form_in_face(face: &Outline, t: usize, s: usize) -> CornerForm
     requires face { IsOutline face.now }
     requires first { t < length (nodes_of face.now) }
     requires second { s < length (nodes_of face.now) }
-    ensures { IsFormOf result (cross (face_plane (nodes_of face.now) t) (face_plane (nodes_of face.now) s)) }
+    ensures { IsFormOf result
+        (cross (face_plane (nodes_of face.now) t) (face_plane (nodes_of face.now) s)) }
 {
     if next_place(count_of(face), t) == s {
         CornerForm::Node(numbers_in(node_of(face, s)))
@@ -70,7 +71,8 @@ fn form_of(f: &Outline, g: &Outline, i: u8, j: u8) -> CornerForm
     requires g { IsOutline g.now }
     requires first { (1 ≤ i) × (i ≤ length (nodes_of f.now) + length (nodes_of g.now)) }
     requires second { (1 ≤ j) × (j ≤ length (nodes_of f.now) + length (nodes_of g.now)) }
-    ensures { IsFormOf result (cross (plane (planes_of_pair (nodes_of f.now) (nodes_of g.now)) i) (plane (planes_of_pair (nodes_of f.now) (nodes_of g.now)) j)) }
+    ensures { let planes = planes_of_pair (nodes_of f.now) (nodes_of g.now) in
+        IsFormOf result (cross (plane planes i) (plane planes j)) }
 {
     let m = count_of(f);
     let first = i as usize;
@@ -90,7 +92,8 @@ pub fn corner_form(f: &Outline, g: &Outline, ring: &Ring, t: usize) -> CornerFor
     requires g { IsOutline g.now }
     requires numbers { AreNumbersOf f.now g.now ring.now.items }
     requires place { t < length ring.now.items }
-    ensures { IsFormOf result (corner_of (length ring.now.items) (listed (planes_of_pair (nodes_of f.now) (nodes_of g.now)) ring.now.items) t) }
+    ensures { let planes = planes_of_pair (nodes_of f.now) (nodes_of g.now) in
+        IsFormOf result (corner_of (length ring.now.items) (listed planes ring.now.items) t) }
 {
     let numbers = ring.as_slice();
     let following = next_place(numbers.len(), t);

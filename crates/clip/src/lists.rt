@@ -28,7 +28,8 @@ pub fn plane_at(planes: &PlaneList, i: u8) -> Vec3
 pub fn corner_at(planes: &PlaneList, ring: &Ring, t: usize) -> Vec3
     requires usable { IsUsable planes.now.items ring.now.items }
     requires place { t < length ring.now.items }
-    ensures value { result ≡ corner_of (length ring.now.items) (listed planes.now.items ring.now.items) t }
+    ensures value { result ≡ corner_of (length ring.now.items)
+        (listed planes.now.items ring.now.items) t }
     ensures size { Is75 result }
 {
     let numbers = ring.as_slice();
@@ -45,7 +46,8 @@ pub fn corner(planes: &PlaneList, ring: &Ring, t: u32) -> Vec3
     requires place { (1 ≤ t) × (t ≤ length ring.now.items) }
     requires numbers { AreNumbers planes.now.items ring.now.items }
     requires size { EachIs37 planes.now.items (length planes.now.items) }
-    ensures value { result ≡ corner_of (length ring.now.items) (listed planes.now.items ring.now.items) (t - 1) }
+    ensures value { result ≡ corner_of (length ring.now.items)
+        (listed planes.now.items ring.now.items) (t - 1) }
     ensures size { Is75 result }
 {
     corner_at(planes, ring, t as usize - 1)

@@ -22,7 +22,8 @@ fn meeting_in_face(face: &Outline, t: usize, s: usize, w: NarrowVec3) -> i128
     requires first { t < length (nodes_of face.now) }
     requires second { s < length (nodes_of face.now) }
     requires plane { Is37 (wide w) }
-    ensures { sign_of result ≡ sign_of (inner (wide w) (cross (face_plane (nodes_of face.now) t) (face_plane (nodes_of face.now) s))) }
+    ensures { sign_of result ≡ sign_of (inner (wide w) (cross (face_plane (nodes_of face.now) t)
+        (face_plane (nodes_of face.now) s))) }
 {
     if next_place(count_of(face), t) == s {
         i128::from(narrow_dot(w, node_of(face, s)))
@@ -66,7 +67,8 @@ fn meeting(f: &Outline, g: &Outline, i: u8, j: u8, w: NarrowVec3) -> i128
     requires first { (1 ≤ i) × (i ≤ length (nodes_of f.now) + length (nodes_of g.now)) }
     requires second { (1 ≤ j) × (j ≤ length (nodes_of f.now) + length (nodes_of g.now)) }
     requires plane { Is37 (wide w) }
-    ensures { let ps = planes_of_pair (nodes_of f.now) (nodes_of g.now) in sign_of result ≡ sign_of (inner (wide w) (cross (plane ps i) (plane ps j))) }
+    ensures { let ps = planes_of_pair (nodes_of f.now) (nodes_of g.now) in sign_of result
+        ≡ sign_of (inner (wide w) (cross (plane ps i) (plane ps j))) }
 {
     let m = count_of(f);
     let first = i as usize;
@@ -92,7 +94,8 @@ pub fn signs_on(f: &Outline, g: &Outline, ring: &Ring, w: NarrowVec3) -> Sides
     requires g { IsOutline g.now }
     requires numbers { AreNumbersOf f.now g.now ring.now.items }
     requires plane { Is37 (wide w) }
-    ensures { HaveSigns (planes_of_pair (nodes_of f.now) (nodes_of g.now)) ring.now.items (wide w) result.items }
+    ensures { HaveSigns (planes_of_pair (nodes_of f.now) (nodes_of g.now)) ring.now.items
+        (wide w) result.items }
 {
     let numbers = ring.as_slice();
     let mut sides = Sides::new();

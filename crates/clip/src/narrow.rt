@@ -100,8 +100,10 @@ pub struct Extent {
 pub fn extent_on(plane: NarrowVec3, nodes: &[NarrowVec3]) -> Extent
     requires plane { Is37 (wide plane) }
     requires nodes { AreNodeSized nodes.now }
-    ensures least { (t : ℕ) → t < length nodes.now → result.least ≤ℤ inner (wide plane) (wide (slice_index_or nodes.now t narrow_zero)) }
-    ensures greatest { (t : ℕ) → t < length nodes.now → inner (wide plane) (wide (slice_index_or nodes.now t narrow_zero)) ≤ℤ result.greatest }
+    ensures least { (t : ℕ) → t < length nodes.now
+        → result.least ≤ℤ inner (wide plane) (wide (slice_index_or nodes.now t narrow_zero)) }
+    ensures greatest { (t : ℕ) → t < length nodes.now
+        → inner (wide plane) (wide (slice_index_or nodes.now t narrow_zero)) ≤ℤ result.greatest }
 {
     let mut least = i64::MAX;
     let mut greatest = i64::MIN;

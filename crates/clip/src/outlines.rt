@@ -135,7 +135,8 @@ pub fn outline_keeps_off(f: &Outline, g: &Outline) -> bool
 pub fn cuts_of(f: &Outline, g: &Outline) -> Option<Cuts>
     requires f { IsOutline f.now }
     requires g { IsOutline g.now }
-    ensures { MatchOption result (KeepsOff (nodes_of g.now) (nodes_of f.now)) (λ cuts. AreCuts (nodes_of f.now) (nodes_of g.now) cuts.items) }
+    ensures { MatchOption result (KeepsOff (nodes_of g.now) (nodes_of f.now))
+        (λ cuts. AreCuts (nodes_of f.now) (nodes_of g.now) cuts.items) }
 {
     let planes = g.planes.as_slice();
     let nodes = f.nodes.as_slice();

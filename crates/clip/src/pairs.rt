@@ -68,7 +68,8 @@ pub fn clip<L: Ledger>(a: &Mesh, i: u32, b: &Mesh, j: u32, steps: &mut Steps<L>)
     requires source { IsFaceNumber a.now i }
     requires target { IsFaceNumber b.now j }
     ensures meets { IsSome result ↔ Meets (corners_of a.now i) (corners_of b.now j) }
-    ensures ring { IfSome result (λ ring. IsRing (corners_of a.now i) (corners_of b.now j) ring.items) }
+    ensures ring { IfSome result (λ ring.
+        IsRing (corners_of a.now i) (corners_of b.now j) ring.items) }
     ensures bounds { let source = corners_of a.now i in
         let target = corners_of b.now j in
         IfSome result (λ ring. (d : Triple)
@@ -95,7 +96,8 @@ pub fn clip_outlines<L: Ledger>(
     requires source { nodes_of f.now ≡ corners_of a.now i }
     requires target { nodes_of g.now ≡ corners_of b.now j }
     ensures meets { IsSome result ↔ Meets (corners_of a.now i) (corners_of b.now j) }
-    ensures ring { IfSome result (λ ring. IsRing (corners_of a.now i) (corners_of b.now j) ring.items) }
+    ensures ring { IfSome result (λ ring.
+        IsRing (corners_of a.now i) (corners_of b.now j) ring.items) }
     ensures bounds { let source = corners_of a.now i in
         let target = corners_of b.now j in
         IfSome result (λ ring. (d : Triple)

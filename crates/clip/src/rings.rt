@@ -40,7 +40,8 @@ pub fn turn(ring: &mut Ring, t: usize)
 fn least_place(ring: &Ring) -> usize
     requires { 0 < length ring.now.items }
     ensures below { result < length ring.now.items }
-    ensures least { (t : ℕ) → t < length ring.now.items → slice_index ring.now.items result ≤ slice_index ring.now.items t }
+    ensures least { (t : ℕ) → t < length ring.now.items
+        → slice_index ring.now.items result ≤ slice_index ring.now.items t }
 {
     let numbers = ring.as_slice();
     let mut least = 0;
@@ -55,8 +56,10 @@ fn least_place(ring: &Ring) -> usize
 // Turns the ring so that its least number comes first.
 pub fn begin_with_least(ring: &mut Ring)
     requires { 0 < length ring.old.items }
-    ensures least_first { (t : ℕ) → t < length ring.new.items → slice_index ring.new.items 0 ≤ slice_index ring.new.items t }
-    ensures turned { (j : ℕ) × j < length ring.old.items × RotatedLeft ring.old.items ring.new.items (length ring.old.items) j }
+    ensures least_first { (t : ℕ) → t < length ring.new.items
+        → slice_index ring.new.items 0 ≤ slice_index ring.new.items t }
+    ensures turned { (j : ℕ) × j < length ring.old.items
+        × RotatedLeft ring.old.items ring.new.items (length ring.old.items) j }
     ensures len { length ring.new.items ≡ length ring.old.items }
 {
     let least = least_place(ring);
@@ -67,13 +70,17 @@ pub fn begin_with_least(ring: &mut Ring)
 // of the planes whose corners are no part of that run. `planes` stands in the contract alone.
 fn fill_gap(planes: &PlaneList, ring: &mut Ring, sides: &[i8], m: u8, t: usize)
     requires room { 1 ≤ m × m ≤ 32 }
-    requires cycle { IsCycle (plane planes.now.items) (m - 1) (length ring.old.items) (slice_index ring.old.items) }
-    requires sides { HaveSigns planes.now.items ring.old.items (plane planes.now.items m) sides.now }
+    requires cycle { IsCycle (plane planes.now.items) (m - 1) (length ring.old.items)
+        (slice_index ring.old.items) }
+    requires sides { HaveSigns planes.now.items ring.old.items
+        (plane planes.now.items m) sides.now }
     requires place { t < length sides.now }
     requires not_positive { slice_index_or sides.now t (pos 0) ≤ℤ pos 0 }
     requires positive { pos 0 <ℤ slice_index_or sides.now (after (length sides.now) t) (pos 0) }
-    requires negative { (s : ℕ) × s < length sides.now × slice_index_or sides.now s (pos 0) <ℤ pos 0 }
-    ensures { IsCycle (plane planes.now.items) m (length ring.new.items) (slice_index ring.new.items) }
+    requires negative { (s : ℕ) × s < length sides.now
+        × slice_index_or sides.now s (pos 0) <ℤ pos 0 }
+    ensures { IsCycle (plane planes.now.items) m (length ring.new.items)
+        (slice_index ring.new.items) }
 {
     let first = next_place(sides.len(), t);
     let kept = positive_run(sides, first);

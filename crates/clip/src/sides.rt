@@ -40,7 +40,8 @@ pub fn sides_of(planes: &PlaneList, ring: &Ring, plane: Vec3) -> Sides
 
 // Whether a corner is negative.
 pub fn has_negative(sides: &[i8]) -> bool
-    ensures { IsTrue result ↔ ((t : ℕ) × t < length sides.now × slice_index_or sides.now t (pos 0) <ℤ pos 0) }
+    ensures { IsTrue result ↔ ((t : ℕ) × t < length sides.now
+        × slice_index_or sides.now t (pos 0) <ℤ pos 0) }
 {
     sides.iter().any(|side| *side < 0)
 }
@@ -67,8 +68,10 @@ pub fn rise(sides: &[i8]) -> Option<usize>
 pub fn positive_run(sides: &[i8], first: usize) -> usize
     requires first { first < length sides.now }
     ensures within { result ≤ length sides.now }
-    ensures positive { (u : ℕ) → u < result → pos 0 <ℤ slice_index_or sides.now (shifted (length sides.now) first u) (pos 0) }
-    ensures stop { result < length sides.now → slice_index_or sides.now (shifted (length sides.now) first result) (pos 0) ≤ℤ pos 0 }
+    ensures positive { (u : ℕ) → u < result
+        → pos 0 <ℤ slice_index_or sides.now (shifted (length sides.now) first u) (pos 0) }
+    ensures stop { result < length sides.now
+        → slice_index_or sides.now (shifted (length sides.now) first result) (pos 0) ≤ℤ pos 0 }
 {
     let mut place = first;
     for run in 0..sides.len() {

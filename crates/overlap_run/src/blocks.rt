@@ -50,7 +50,6 @@ pub fn clip_block<C: PieceList, L: Ledger>(
     requires index { IsIndexOf index.now b.now }
     ensures block { IfOk result (IsBlockOf C.holds a.now b.now (DoMeetWithin a.now b.now from to)) }
     ensures few { IfOk result (λ block. block.count ≤ clip_count a.now b.now from to) }
-    ensures target_limit { length b.now.faces ≤ 1048576 }
     ensures ticks { OnOk result (steps.new ≡ steps.old + clip_count a.now b.now from to) }
     ensures most { steps.new ≤ steps.old + clip_count a.now b.now from to }
 {
@@ -89,8 +88,10 @@ pub fn numbered_block<C: PieceList, G: Gate, L: Ledger>(
     requires index { IsIndexOf index.now b.now }
     requires block { 64 * s < length a.now.faces }
     ensures block { IfOk result (IsNumberedBlock C.holds a.now b.now s) }
-    ensures ticks { OnOk result (steps.new ≡ steps.old + clip_count a.now b.now (64 * s + 1) (min (length a.now.faces) (64 * (s + 1)))) }
-    ensures most { steps.new ≤ steps.old + clip_count a.now b.now (64 * s + 1) (min (length a.now.faces) (64 * (s + 1))) }
+    ensures ticks { let last = min (length a.now.faces) (64 * (s + 1)) in
+        OnOk result (steps.new ≡ steps.old + clip_count a.now b.now (64 * s + 1) last) }
+    ensures most { let last = min (length a.now.faces) (64 * (s + 1)) in
+        steps.new ≤ steps.old + clip_count a.now b.now (64 * s + 1) last }
 {
     let faces = face_count(a);
     let from = BLOCK_SIZE * s + 1;
@@ -138,8 +139,12 @@ pub fn put_block<C: PieceList>(
 ) -> Result<Block<Stretch>, NoMemory>
     requires own { HoldsSome C.holds own.old.pieces }
     requires block { HoldsSome C.holds block.pieces }
-    ensures block { IfOk result (λ put. (a b : RawMesh) → (s : ℕ) → IsNumberedBlock C.holds a b s block → IsWaitingBlock C.holds C.is_behind own.new a b s put) }
-    ensures kept { OnOk result ((a b : RawMesh) (s : ℕ) (put : Block Stretch) → IsWaitingBlock C.holds C.is_behind own.old a b s put → IsWaitingBlock C.holds C.is_behind own.new a b s put) }
+    ensures block { IfOk result (λ put. (a b : RawMesh) → (s : ℕ)
+        → IsNumberedBlock C.holds a b s block
+        → IsWaitingBlock C.holds C.is_behind own.new a b s put) }
+    ensures kept { OnOk result ((a b : RawMesh) (s : ℕ) (put : Block Stretch)
+        → IsWaitingBlock C.holds C.is_behind own.old a b s put
+        → IsWaitingBlock C.holds C.is_behind own.new a b s put) }
     ensures own { OnOk result (HoldsSome C.holds own.new.pieces) }
 {
     own.count = own.count.saturating_add(block.count);
@@ -159,8 +164,12 @@ fn put_pieces<C: PieceList>(list: &mut C, block: Block<C>) -> Result<Block<Stret
     requires list { HoldsSome C.holds list.old }
     requires pieces { HoldsSome C.holds block.pieces }
     ensures count { IfOk result (λ put. put.count ≡ block.count) }
-    ensures block { IfOk result (λ put. (a b : RawMesh) → (s : ℕ) → IsNumberedBlock C.holds a b s block → IsNumberedBlock (StandsIn C.holds C.is_behind list.new) a b s put) }
-    ensures kept { OnOk result ((stretch : Stretch) (pieces : List Piece) → StandsIn C.holds C.is_behind list.old stretch pieces → StandsIn C.holds C.is_behind list.new stretch pieces) }
+    ensures block { IfOk result (λ put. (a b : RawMesh) → (s : ℕ)
+        → IsNumberedBlock C.holds a b s block
+        → IsNumberedBlock (StandsIn C.holds C.is_behind list.new) a b s put) }
+    ensures kept { OnOk result ((stretch : Stretch) (pieces : List Piece)
+        → StandsIn C.holds C.is_behind list.old stretch pieces
+        → StandsIn C.holds C.is_behind list.new stretch pieces) }
     ensures list { OnOk result (HoldsSome C.holds list.new) }
 {
     let from = list.end();
@@ -181,7 +190,8 @@ pub fn take_stretch<C: PieceList>(
     block: Block<Stretch>,
 ) -> Result<(), NoMemory>
     requires room { run.old.count + block.count < 2 ^ 64 }
-    ensures { OnOk result (TakesBlock C.holds (StandsIn C.holds C.is_behind list.now) run.old block run.new) }
+    ensures { OnOk result (TakesBlock C.holds
+        (StandsIn C.holds C.is_behind list.now) run.old block run.new) }
 {
     run.count += block.count;
     if GREATEST_COUNT < run.count {

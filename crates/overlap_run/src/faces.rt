@@ -38,7 +38,8 @@ fn add_piece<C: PieceList>(
     requires g_nodes { nodes_of g.now ≡ corners_of b.now j }
     requires ring { IsRing (corners_of a.now i) (corners_of b.now j) ring.items }
     requires room { block.old.count + 1 < 2 ^ 64 }
-    ensures { OnOk result (AddsPiece C.holds a.now b.now (record { source = i; target = j }) block.old block.new) }
+    ensures { OnOk result (AddsPiece C.holds a.now b.now
+        (record { source = i; target = j }) block.old block.new) }
 {
     block.count += 1;
     if block.count > GREATEST_COUNT {
@@ -68,7 +69,8 @@ fn clip_pair<C: PieceList, L: Ledger>(
     requires f { IsOutline f.now }
     requires f_nodes { nodes_of f.now ≡ corners_of a.now i }
     requires room { block.old.count + 1 < 2 ^ 64 }
-    ensures pair { OnOk result (TakesPair C.holds a.now b.now (record { source = i; target = j }) block.old block.new) }
+    ensures pair { OnOk result (TakesPair C.holds a.now b.now
+        (record { source = i; target = j }) block.old block.new) }
     ensures few { OnOk result (block.new.count ≤ block.old.count + 1) }
     ensures tick { steps.new ≡ steps.old + 1 }
 {
@@ -93,10 +95,12 @@ pub fn clip_face<C: PieceList, L: Ledger>(
     requires source { IsFaceNumber a.now i }
     requires targets { All (IsFaceNumber b.now) targets.now }
     requires ascending { IsStrictlyIncreasing targets.now }
-    requires all { (j : ℕ) → IsFaceNumber b.now j → Meets (corners_of a.now i) (corners_of b.now j) → Contains targets.now j }
+    requires all { (j : ℕ) → IsFaceNumber b.now j → Meets (corners_of a.now i) (corners_of b.now j)
+        → Contains targets.now j }
     requires room { block.old.count + length targets.now < 2 ^ 64 }
     // a block of the faces before face i becomes one of the faces as far as face i
-    ensures block { (first : ℕ) → first ≤ i → IsBlockOf C.holds a.now b.now (DoMeetWithin a.now b.now first (i - 1)) block.old
+    ensures block { (first : ℕ) → first ≤ i
+        → IsBlockOf C.holds a.now b.now (DoMeetWithin a.now b.now first (i - 1)) block.old
         → OnOk result (IsBlockOf C.holds a.now b.now (DoMeetWithin a.now b.now first i) block.new) }
     ensures few { OnOk result (block.new.count ≤ block.old.count + length targets.now) }
     ensures ticks { OnOk result (steps.new ≡ steps.old + length targets.now) }

@@ -36,8 +36,11 @@ fn grid_corners(alloc: Global, f: &Outline, g: &Outline, ring: &Ring) -> Result<
     requires g { IsOutline g.now }
     requires numbers { AreNumbersOf f.now g.now ring.now.items }
     requires nonzero { (t : ℕ) → t < length ring.now.items
-        → corner_of (length ring.now.items) (listed (planes_of_pair (nodes_of f.now) (nodes_of g.now)) ring.now.items) t ≢ zero_triple }
-    ensures { IfOk result (λ corners. corners ≡ grid_corners_of (length ring.now.items) (listed (planes_of_pair (nodes_of f.now) (nodes_of g.now)) ring.now.items)) }
+        → let planes = planes_of_pair (nodes_of f.now) (nodes_of g.now) in
+        corner_of (length ring.now.items) (listed planes ring.now.items) t ≢ zero_triple }
+    ensures { let planes = planes_of_pair (nodes_of f.now) (nodes_of g.now) in
+        IfOk result (λ corners. corners
+        ≡ grid_corners_of (length ring.now.items) (listed planes ring.now.items)) }
 {
     let mut items = SmallVec::with_capacity(alloc, ring.len())?;
     for t in 0..ring.len() {

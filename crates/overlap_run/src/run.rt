@@ -27,7 +27,8 @@ pub fn ascending<C: PieceList, G: Gate, L: Ledger>(
 ) -> Result<Block<C>, NoMemory>
     requires index { IsIndexOf index.now b.now }
     ensures run { IfOk result (IsBlockOf C.holds a.now b.now (DoMeet a.now b.now)) }
-    ensures ticks { OnOk result (steps.new ≡ steps.old + clip_count a.now b.now 1 (length a.now.faces)) }
+    ensures ticks { OnOk result (steps.new
+        ≡ steps.old + clip_count a.now b.now 1 (length a.now.faces)) }
     ensures most { steps.new ≤ steps.old + clip_count a.now b.now 1 (length a.now.faces) }
 {
     // The counts say that all numbers fit.
@@ -58,8 +59,10 @@ fn all_blocks<R: Threads, C: PieceList + Send + Sync, G: Gate + Sync, L: Ledger>
     requires index { IsIndexOf index.now b.now }
     requires workers { (1 ≤ workers) × (workers ≤ 64) }
     ensures run { IfOk result (IsBlockOf C.holds a.now b.now (DoMeet a.now b.now)) }
-    ensures ticks { workers ≡ 1 → OnOk result (steps.new ≡ steps.old + clip_count a.now b.now 1 (length a.now.faces)) }
-    ensures most { workers ≡ 1 → steps.new ≤ steps.old + clip_count a.now b.now 1 (length a.now.faces) }
+    ensures ticks { workers ≡ 1 → OnOk result (steps.new
+        ≡ steps.old + clip_count a.now b.now 1 (length a.now.faces)) }
+    ensures most { workers ≡ 1 → steps.new
+        ≤ steps.old + clip_count a.now b.now 1 (length a.now.faces) }
     ensures still { 2 ≤ workers → steps.new ≡ steps.old }
 {
     if workers == 1 {
@@ -86,10 +89,13 @@ pub fn overlap_list<C: PieceList + Send + Sync, G: Gate + Sync, L: Ledger>(
     // where more pairs meet than an overlap may have, no overlap comes
     ensures past { (n : ℕ) → IsPairCount a.now b.now n → 8388608 < n → IsErr result }
     // and where no more do, no number comes
-    ensures within { (n m : ℕ) → IsPairCount a.now b.now n → n ≤ 8388608 → result ≢ Err (RunFault.TooManyPieces m) }
+    ensures within { (n m : ℕ) → IsPairCount a.now b.now n → n ≤ 8388608
+        → result ≢ Err (RunFault.TooManyPieces m) }
     // one worker takes a step for each pair that is clipped
-    ensures ticks { workers ≡ 1 → result ≢ Err RunFault.NoMemory → steps.new ≡ steps.old + clip_count a.now b.now 1 (length a.now.faces) }
-    ensures most { workers ≡ 1 → steps.new ≤ steps.old + clip_count a.now b.now 1 (length a.now.faces) }
+    ensures ticks { workers ≡ 1 → result ≢ Err RunFault.NoMemory
+        → steps.new ≡ steps.old + clip_count a.now b.now 1 (length a.now.faces) }
+    ensures most { workers ≡ 1 → steps.new
+        ≤ steps.old + clip_count a.now b.now 1 (length a.now.faces) }
     // each of several workers has a counter of its own
     ensures still { 2 ≤ workers → steps.new ≡ steps.old }
 {
@@ -130,10 +136,13 @@ pub fn overlap<G: Gate + Sync, L: Ledger>(
     // where more pairs meet than an overlap may have, no overlap comes
     ensures past { (n : ℕ) → IsPairCount a.now b.now n → 8388608 < n → IsErr result }
     // and where no more do, no number comes
-    ensures within { (n m : ℕ) → IsPairCount a.now b.now n → n ≤ 8388608 → result ≢ Err (RunFault.TooManyPieces m) }
+    ensures within { (n m : ℕ) → IsPairCount a.now b.now n → n ≤ 8388608
+        → result ≢ Err (RunFault.TooManyPieces m) }
     // one worker takes a step for each pair that is clipped
-    ensures ticks { workers ≡ 1 → result ≢ Err RunFault.NoMemory → steps.new ≡ steps.old + clip_count a.now b.now 1 (length a.now.faces) }
-    ensures most { workers ≡ 1 → steps.new ≤ steps.old + clip_count a.now b.now 1 (length a.now.faces) }
+    ensures ticks { workers ≡ 1 → result ≢ Err RunFault.NoMemory
+        → steps.new ≡ steps.old + clip_count a.now b.now 1 (length a.now.faces) }
+    ensures most { workers ≡ 1 → steps.new
+        ≤ steps.old + clip_count a.now b.now 1 (length a.now.faces) }
     // each of several workers has a counter of its own
     ensures still { 2 ≤ workers → steps.new ≡ steps.old }
 {

@@ -54,7 +54,9 @@ fn counted_block<C: PieceList, G: Gate, L: Ledger>(
     requires parts { blank.parts ≡ L.parts }
     requires some { 0 < blank.parts }
     ensures block { IfOk result (IsWaitingBlock C.holds C.is_behind own.new a.now b.now s) }
-    ensures kept { OnOk result ((x y : RawMesh) (t : ℕ) (put : Block Stretch) → IsWaitingBlock C.holds C.is_behind own.old x y t put → IsWaitingBlock C.holds C.is_behind own.new x y t put) }
+    ensures kept { OnOk result ((x y : RawMesh) (t : ℕ) (put : Block Stretch)
+        → IsWaitingBlock C.holds C.is_behind own.old x y t put
+        → IsWaitingBlock C.holds C.is_behind own.new x y t put) }
     ensures own { OnOk result (HoldsSome C.holds own.new.pieces) }
 {
     let mut steps = Steps::<L>::new(blank);
