@@ -1,4 +1,4 @@
--- The cone of a cycle of planes: its directions, and what its corners generate.
+-- The cone of a cycle of planes: its directions, and what its corners generate. Source: our own.
 use Rattle.std.specs.Prelude.{◌≡◌, ℕ, zero, suc, ◌<◌, ℤ, pos, ◌≤ℤ◌, ◌<ℤ◌}
 use Rattle.vec_exact.specs.declared.Vec3.{Vec3}
 use Rattle.vec_exact.specs.Vector.{zero_triple, inner, scaled, added}

@@ -1,4 +1,4 @@
--- Faces as sets of directions. A face is given by its nodes in order.
+-- Faces as sets of directions. A face is given by its nodes in order. Source: our own.
 use Rattle.std.specs.Prelude.{List, length}
 use Rattle.vec_exact.specs.declared.Vec3.{Vec3}
 use Rattle.vec_exact.specs.Cycle.{face_plane}

@@ -1,4 +1,4 @@
--- The four laws of cones.
+-- The four laws of cones. Source: our own.
 use Rattle.std.specs.Prelude.{◌≡◌, ℕ, ◌<◌, pos, neg_ℤ, ◌≤ℤ◌, ◌<ℤ◌, List, length, map, ◌↔◌, ◌⊎◌}
 use Rattle.vec_exact.specs.declared.Vec3.{Vec3}
 use Rattle.vec_exact.specs.Vector.{zero_triple, inner, det, scaled, added}

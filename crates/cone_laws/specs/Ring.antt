@@ -1,4 +1,4 @@
--- Rings of edge planes.
+-- Rings of edge planes. Source: our own.
 use Rattle.std.specs.Prelude.{◌≡◌, ◌≢◌, ℕ, ◌-◌, ◌<◌, ◌≤◌, pos, ◌≤ℤ◌, List, length, map, ◌++◌, slice_index, slice_index_or}
 use Rattle.std.specs.List.{range_with_len}
 use Rattle.vec_exact.specs.declared.Vec3.{Vec3}

@@ -1,4 +1,4 @@
--- How many nodes stand before a place in the order of nodes, by formula.
+-- How many nodes stand before a place in the order of nodes, by formula. Source: our own.
 use Rattle.std.specs.Prelude.{ℕ, ◌+◌, ◌-◌, ◌*◌, ◌==◌, ◌||◌, if◌then◌else◌}
 use Rattle.gen_cs.specs.CubedSphere.{is_end}
 
