@@ -6,3 +6,4 @@ pub mod Bounds
 pub mod Floors
 pub mod Groups
 pub mod TwoRows
+pub mod AreaSums

@@ -1,4 +1,3 @@
-mod OneMore
 mod RightPieces
 mod FirstFaults
 mod Made

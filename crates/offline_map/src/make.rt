@@ -7,10 +7,10 @@ ghost use Rattle.offline_map.specs.declared.faults.MapFault.{MapFault as FirstFa
 ghost use Rattle.offline_map.specs.declared.faults.MapFault.TheVariants.{NoMemory as MapNoMemory};
 
 use crate::MapFault;
-use crate::areas::{areas_of_rows, check_covered};
+use crate::areas::check_covered;
 use crate::pieces::tested_rows;
 use clip::{Overlap, Piece};
-use map_rows::{Map, MapRows};
+use map_rows::{Map, MapRows, areas_of_rows};
 use mesh_check::{Mesh, face_count};
 use std::alloc::Global;
 use vec_exact::Longs;

@@ -3,8 +3,8 @@ use Rattle.std.proofs.lemmas.List.Elements.{All-get_or}
 use Rattle.map_rows.specs.declared.rows.MapRow.{MapRow}
 use Rattle.map_rows.specs.Maps.{IsSoundRow, measure_of, source_of, target_of}
 use Rattle.map_rows.proofs.FaceSums.{no_sums, sums_more}
-use Rattle.offline_map.proofs.OneMore.{kept, measures, sum_bounds, written}
-use Rattle.offline_map.proofs.areas.areas_of_rows.Goals as goal
+use Rattle.map_rows.proofs.AreaSums.{kept, measures, sum_bounds, written}
+use Rattle.map_rows.proofs.areas.areas_of_rows.Goals as goal
 
 abbrev no_row : MapRow
 no_row = record { col = 0; row = 0; s = pos 0 }

@@ -1,6 +1,6 @@
 use Rattle.std.proofs.Common.{◌≡◌, take}
 use Rattle.map_rows.specs.Maps.{areas_of, source_of, target_of}
-use Rattle.offline_map.proofs.areas.areas_of_rows.Given as goal
+use Rattle.map_rows.proofs.areas.areas_of_rows.Given as goal
 
 abbrev pub invariant-loop-row : goal.invariant-loop-row
 invariant-loop-row l =
