@@ -1,7 +1,7 @@
 -- What a look-up of names has found.
 use Rattle.std.specs.Prelude.{ℕ, List, [], ◌∷◌}
 use Rattle.nc_format.specs.declared.NcFile.{NcFile}
-use Rattle.exodus_mesh.specs.declared.kinds.NumberKind.TheVariants.{Int}
+use Rattle.exodus_mesh.specs.declared.kinds.NumberKind.TheVariants.{Int, Long}
 use Rattle.exodus_mesh.specs.declared.vars.CoordVars.{CoordVars}
 use Rattle.exodus_mesh.specs.declared.vars.CoordVars.TheVariants.{Whole, Split}
 use Rattle.exodus_mesh.specs.declared.vars.BlockVar.{BlockVar}
@@ -14,6 +14,10 @@ IsIntVar file lens place = IsNumberVar Int file lens place
 -- the same, of some lengths
 abbrev pub IsSomeIntVar : NcFile → ℕ → Type 0
 IsSomeIntVar file place = (lens : List ℕ) × IsIntVar file lens place
+
+-- at this place stands a variable of type BYTE, SHORT, INT or INT64 with some lengths, none of which is 0
+abbrev pub IsSomeLongVar : NcFile → ℕ → Type 0
+IsSomeLongVar file place = (lens : List ℕ) × IsNumberVar Long file lens place
 
 abbrev pub AreCoordVars : NcFile → ℕ → CoordVars → Type 0
 AreCoordVars file nodes (Whole coord) = IsIntVar file (3 ∷ nodes ∷ []) coord

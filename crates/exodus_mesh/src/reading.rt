@@ -3,14 +3,14 @@ ghost use Rattle.std.specs.Prelude.{◌≡◌, ℕ, length, All, IfOk, OnOk, Ok,
 ghost use Rattle.vec_exact.specs.Counts.{AreAllowedCounts};
 ghost use Rattle.nc_format.specs.Header.{IsHeader};
 ghost use Rattle.exodus_mesh.specs.MeshNames.{mesh_vars_in};
-ghost use Rattle.exodus_mesh.specs.Found.{IsSomeIntVar, AreCoordVars, IsBlockVar};
+ghost use Rattle.exodus_mesh.specs.Found.{IsSomeIntVar, IsSomeLongVar, AreCoordVars, IsBlockVar};
 ghost use Rattle.exodus_mesh.specs.MeshIn.{values_in, coords_in, rows_in, mesh_at, mesh_in};
 
 use crate::variables::var_at;
 use crate::{BlockVar, CoordVars, MeshVars, mesh_from};
-use nc_format::{NcFile, gather, int_values};
+use nc_format::{NcFile, gather, int_values, long_values};
 use std::alloc::{AllocError, Global};
-use vec_exact::{Ints, NoMemory, RawMesh};
+use vec_exact::{Ints, Longs, NoMemory, RawMesh};
 
 /// The numbers of the variable at a place, in row-major order. Its only error is want of memory.
 pub fn read_ints(alloc: Global, file: &NcFile, bytes: &[u8], place: u32) -> Result<Ints, NoMemory>
@@ -26,6 +26,23 @@ pub fn read_ints(alloc: Global, file: &NcFile, bytes: &[u8], place: u32) -> Resu
     let spelled = gather(alloc, var, bytes)?;
     let items = int_values(alloc, var.kind, &spelled)?;
     Ok(Ints { items })
+}
+
+/// The numbers of the variable at a place, in row-major order, in 64 bits, which INT64 has. Its only
+/// error is want of memory.
+pub fn read_longs(alloc: Global, file: &NcFile, bytes: &[u8], place: u32) -> Result<Longs, NoMemory>
+    requires header { IsHeader bytes.now (length bytes.now) file.now }
+    requires var { IsSomeLongVar file.now place }
+    ensures { IfOk result (λ longs. longs ≡ values_in file.now bytes.now place) }
+{
+    let Some(var) = var_at(file, place) else {
+        return Ok(Longs {
+            items: Vec::new(alloc),
+        });
+    };
+    let spelled = gather(alloc, var, bytes)?;
+    let items = long_values(alloc, var.kind, &spelled)?;
+    Ok(Longs { items })
 }
 
 fn coords(
