@@ -4,13 +4,14 @@ use Rattle.std.proofs.lemmas.List.Elements.{All-from_recursion}
 use Rattle.clip.specs.Overlaps.{IsFaceCount}
 use Rattle.nc_format.specs.declared.NcFile.{NcFile}
 use Rattle.nc_format.specs.Header.{IsHeader}
+use Rattle.exodus_mesh.specs.declared.kinds.NumberKind.{NumberKind}
 use Rattle.exodus_mesh.specs.declared.kinds.NumberKind.TheVariants.{Int}
 use Rattle.exodus_mesh.specs.declared.ids.NameId.{NameId}
 use Rattle.exodus_mesh.specs.declared.ids.NameId.TheVariants.{FacesA, FacesB, Pieces, Source, Target, RingSize, RingPlane, Corner}
 use Rattle.exodus_mesh.specs.declared.ids.NameFault.{NameFault}
 use Rattle.exodus_mesh.specs.declared.ids.NameFault.TheVariants.{Missing, Shape}
 use Rattle.exodus_mesh.specs.Names.{◌>>=◌, found_or}
-use Rattle.exodus_mesh.specs.VarLens.{same_len, var_len, var_lens}
+use Rattle.exodus_mesh.specs.VarLens.{same_len, var_len, var_lens, IsNumberVar}
 use Rattle.exodus_mesh.specs.MeshNames.{place_of}
 use Rattle.exodus_mesh.specs.Found.{IsIntVar, IsSomeIntVar}
 use Rattle.exodus_mesh.proofs.NumberVars.{value_ok, ok_same, if_ok, var_len_ok, var_lens_ok, same_ok}
@@ -29,14 +30,14 @@ count_ok low high file id n h =
     let w = within low high p.0 q.0 in
     (subst (λ (k : ℕ). low ≤ k) q.1 w.0, subst (λ (k : ℕ). k ≤ high) q.1 w.1)
 
-column_ok : (file : NcFile) (pieces : ℕ) (id : NameId) (place : ℕ) → column_in file pieces id ≡ Ok place → IsIntVar file (pieces ∷ []) place
+pub column_ok : (file : NcFile) (kind : NumberKind) (pieces : ℕ) (id : NameId) (place : ℕ) → column_in file kind pieces id ≡ Ok place → IsNumberVar kind file (pieces ∷ []) place
 unfolding column_in
-column_ok file pieces id place h =
-    let p = value_ok (found_or (Missing id) (place_of file id)) (λ at. var_len file Int id at >>= λ len. same_len id pieces len >>= λ same. Ok at) place h in
-    let q = value_ok (var_len file Int id p.0) (λ len. same_len id pieces len >>= λ same. Ok p.0) place p.2 in
+column_ok file kind pieces id place h =
+    let p = value_ok (found_or (Missing id) (place_of file id)) (λ at. var_len file kind id at >>= λ len. same_len id pieces len >>= λ same. Ok at) place h in
+    let q = value_ok (var_len file kind id p.0) (λ len. same_len id pieces len >>= λ same. Ok p.0) place p.2 in
     let r = value_ok (same_len id pieces q.0) (λ same. Ok p.0) place q.2 in
     let len : q.0 ≡ pieces = (same_ok id pieces q.0 r.0 r.1).0 in
-    subst (λ (k : ℕ). IsIntVar file (pieces ∷ []) k) (ok_same p.0 place r.2) (subst (λ (n : ℕ). IsIntVar file (n ∷ []) p.0) len (var_len_ok file Int id p.0 q.0 q.1))
+    subst (λ (k : ℕ). IsNumberVar kind file (pieces ∷ []) k) (ok_same p.0 place r.2) (subst (λ (n : ℕ). IsNumberVar kind file (n ∷ []) p.0) len (var_len_ok file kind id p.0 q.0 q.1))
 
 planes_ok : (file : NcFile) (both : ℕ × ℕ) → planes_in file ≡ Ok both → IsIntVar file (both.1 ∷ []) both.0
 unfolding planes_in
@@ -92,15 +93,15 @@ five_ok : (file : NcFile) (faces_a faces_b pieces : ℕ) (v : OverlapVars) → I
 unfolding five_in
 five_ok file faces_a faces_b pieces v few_a few_b few some h =
     let made : ℕ → ℕ → ℕ → ℕ × ℕ → ℕ → OverlapVars = λ a b c d e. record { faces_a = faces_a; faces_b = faces_b; pieces = pieces; corners = d.1; vars = a ∷ b ∷ c ∷ d.0 ∷ e ∷ [] } in
-    let p = value_ok (column_in file pieces Source) (λ a. column_in file pieces Target >>= λ b. column_in file pieces RingSize >>= λ c. planes_in file >>= λ d. corner_in file d.1 >>= λ e. Ok (made a b c d e)) v h in
-    let q = value_ok (column_in file pieces Target) (λ b. column_in file pieces RingSize >>= λ c. planes_in file >>= λ d. corner_in file d.1 >>= λ e. Ok (made p.0 b c d e)) v p.2 in
-    let r = value_ok (column_in file pieces RingSize) (λ c. planes_in file >>= λ d. corner_in file d.1 >>= λ e. Ok (made p.0 q.0 c d e)) v q.2 in
+    let p = value_ok (column_in file Int pieces Source) (λ a. column_in file Int pieces Target >>= λ b. column_in file Int pieces RingSize >>= λ c. planes_in file >>= λ d. corner_in file d.1 >>= λ e. Ok (made a b c d e)) v h in
+    let q = value_ok (column_in file Int pieces Target) (λ b. column_in file Int pieces RingSize >>= λ c. planes_in file >>= λ d. corner_in file d.1 >>= λ e. Ok (made p.0 b c d e)) v p.2 in
+    let r = value_ok (column_in file Int pieces RingSize) (λ c. planes_in file >>= λ d. corner_in file d.1 >>= λ e. Ok (made p.0 q.0 c d e)) v q.2 in
     let s = value_ok (planes_in file) (λ d. corner_in file d.1 >>= λ e. Ok (made p.0 q.0 r.0 d e)) v r.2 in
     let t = value_ok (corner_in file (s.0).1) (λ e. Ok (made p.0 q.0 r.0 s.0 e)) v s.2 in
     let five : AreFive file pieces (s.0).1 p.0 q.0 r.0 (s.0).0 t.0 = record {
-      is_source = column_ok file pieces Source p.0 p.1;
-      is_target = column_ok file pieces Target q.0 q.1;
-      is_size = column_ok file pieces RingSize r.0 r.1;
+      is_source = column_ok file Int pieces Source p.0 p.1;
+      is_target = column_ok file Int pieces Target q.0 q.1;
+      is_size = column_ok file Int pieces RingSize r.0 r.1;
       is_plane = planes_ok file s.0 s.1;
       is_corner = corner_ok file (s.0).1 t.0 t.1;
     } in

@@ -17,7 +17,7 @@ use Rattle.remap_files.specs.Rows.{IsGoodRing}
 use Rattle.remap_files.proofs.RowFaults.{AreGood, all_are_good}
 use Rattle.remap_files.proofs.Triples.{length_rows}
 
-both_true : (a b : Bool) → (a && b) ≡ true → (a ≡ true) × (b ≡ true)
+pub both_true : (a b : Bool) → (a && b) ≡ true → (a ≡ true) × (b ≡ true)
 both_true true true h = (refl, refl)
 both_true true false h = absurd cc
 both_true false b h = absurd cc
@@ -60,7 +60,7 @@ less_than (pos m) (pos n) ea ec h = grind (arith, ints, h)
 less_than (pos m) (negsuc n) ea ec h = absurd cc
 less_than (negsuc m) c ea ec h = absurd cc
 
-before_by : (a b c d : ℤ) → a ≡ pos (unsigned_abs a) → b ≡ pos (unsigned_abs b) → c ≡ pos (unsigned_abs c) → d ≡ pos (unsigned_abs d) → exceeds a b c d ≡ true
+pub before_by : (a b c d : ℤ) → a ≡ pos (unsigned_abs a) → b ≡ pos (unsigned_abs b) → c ≡ pos (unsigned_abs c) → d ≡ pos (unsigned_abs d) → exceeds a b c d ≡ true
     → (unsigned_abs a < unsigned_abs c) ⊎ ((unsigned_abs a ≡ unsigned_abs c) × (unsigned_abs b < unsigned_abs d))
 before_by a b c d ea eb ec ed h =
     elim (either_true (int_lt a c) (int_eq a c && int_lt b d) h) [
@@ -71,7 +71,7 @@ before_by a b c d ea eb ec ed h =
     ]
 
 -- the faces of a row at no fault
-record IsGoodPair (faces_a faces_b : ℕ) (source target : List ℤ) (r : ℕ) : Type 0 where
+pub record IsGoodPair (faces_a faces_b : ℕ) (source target : List ℤ) (r : ℕ) : Type 0 where
   pub least_source : 1 ≤ unsigned_abs (at_row source r)
   pub greatest_source : unsigned_abs (at_row source r) ≤ faces_a
   pub source_is : at_row source r ≡ pos (unsigned_abs (at_row source r))
@@ -80,7 +80,7 @@ record IsGoodPair (faces_a faces_b : ℕ) (source target : List ℤ) (r : ℕ) :
   pub target_is : at_row target r ≡ pos (unsigned_abs (at_row target r))
   pub order : ((r == 0) ≡ true) ⊎ (exceeds (at_row source (r - 1)) (at_row target (r - 1)) (at_row source r) (at_row target r) ≡ true)
 
-good_pair : (faces_a faces_b : ℕ) (source target : List ℤ) (r : ℕ) → has_good_faces faces_a faces_b source target r ≡ true → IsGoodPair faces_a faces_b source target r
+pub good_pair : (faces_a faces_b : ℕ) (source target : List ℤ) (r : ℕ) → has_good_faces faces_a faces_b source target r ≡ true → IsGoodPair faces_a faces_b source target r
 unfolding has_good_faces
 good_pair faces_a faces_b source target r h =
     let after = exceeds (at_row source (r - 1)) (at_row target (r - 1)) (at_row source r) (at_row target r) in
@@ -101,10 +101,10 @@ good_pair faces_a faces_b source target r h =
 row_pair : (v : OverlapVars) (c : Columns) (r : ℕ) → is_good_row v.faces_a v.faces_b c r ≡ true → IsGoodPair v.faces_a v.faces_b c.source c.target r
 row_pair v c r h = good_pair v.faces_a v.faces_b c.source c.target r (both_true (has_good_faces v.faces_a v.faces_b c.source c.target r) (has_good_ring c.ring_size c.ring_plane r) h).0
 
-some_row : (j : ℕ) → (suc j == 0) ≡ true → ⊥
+pub some_row : (j : ℕ) → (suc j == 0) ≡ true → ⊥
 some_row j h = grind (arith, nat_tests, h)
 
-before_last : (j : ℕ) → suc j - 1 ≡ j
+pub before_last : (j : ℕ) → suc j - 1 ≡ j
 before_last j = omega arith
 
 -- the piece of each row comes before that of the next
@@ -120,7 +120,7 @@ next_before v c j h k =
           (subst (λ i. exceeds (at_row c.source i) (at_row c.target i) (at_row c.source (suc j)) (at_row c.target (suc j)) ≡ true) (before_last j) after)
     ]
 
-same_or_less : (i j : ℕ) → i < suc j → (i < j) ⊎ (i ≡ j)
+pub same_or_less : (i j : ℕ) → i < suc j → (i < j) ⊎ (i ≡ j)
 same_or_less i j h = grind arith
 
 rows_before : (v : OverlapVars) (c : Columns) (n : ℕ) → AreGood v c n → (i j : ℕ) → i < j → j < n → IsBefore (piece_at c i) (piece_at c j)

@@ -1,5 +1,6 @@
 pub mod OverlapLength
 mod Triples
+mod FirstNot
 mod RowFaults
 mod GoodRows
 mod FoundOverlap
@@ -8,3 +9,7 @@ mod RowsAgain
 mod OverlapAgain
 mod Taken
 mod ColumnCounts
+pub mod MapLength
+mod FoundMap
+mod MapFaults
+mod MapAgain

@@ -20,6 +20,7 @@ use Rattle.nc_format.proofs.Whole.{one_header}
 use Rattle.nc_format.proofs.Inside.{doc_header}
 use Rattle.nc_format.proofs.ReadBack.{numbers_back}
 use Rattle.nc_format.proofs.Gathered.{doc_values}
+use Rattle.exodus_mesh.specs.declared.kinds.NumberKind.TheVariants.{Int}
 use Rattle.exodus_mesh.specs.declared.ids.NameId.{NameId}
 use Rattle.exodus_mesh.specs.declared.ids.NameId.TheVariants.{FacesA, FacesB, Pieces, Source, Target, RingSize}
 use Rattle.exodus_mesh.specs.Names.{name_of}
@@ -74,15 +75,15 @@ counts_again o h =
 abbrev file_for : ℕ → ℕ → Piece → List Piece → NcFile
 file_for faces_a faces_b p ps = header_of (overlap_document (parts_of faces_a faces_b (p ∷ ps)))
 
-source_again : (faces_a faces_b : ℕ) (p : Piece) (ps : List Piece) → column_in (file_for faces_a faces_b p ps) (length (p ∷ ps)) Source ≡ Ok 0
+source_again : (faces_a faces_b : ℕ) (p : Piece) (ps : List Piece) → column_in (file_for faces_a faces_b p ps) Int (length (p ∷ ps)) Source ≡ Ok 0
 unfolding column_in var_len lens_at name_of overlap_document placed
 source_again faces_a faces_b p ps = rw (not_zero (length (p ∷ ps)) (omega arith), same_true (length (p ∷ ps))) refl
 
-target_again : (faces_a faces_b : ℕ) (p : Piece) (ps : List Piece) → column_in (file_for faces_a faces_b p ps) (length (p ∷ ps)) Target ≡ Ok 1
+target_again : (faces_a faces_b : ℕ) (p : Piece) (ps : List Piece) → column_in (file_for faces_a faces_b p ps) Int (length (p ∷ ps)) Target ≡ Ok 1
 unfolding column_in var_len lens_at name_of overlap_document placed
 target_again faces_a faces_b p ps = rw (not_zero (length (p ∷ ps)) (omega arith), same_true (length (p ∷ ps))) refl
 
-size_again : (faces_a faces_b : ℕ) (p : Piece) (ps : List Piece) → column_in (file_for faces_a faces_b p ps) (length (p ∷ ps)) RingSize ≡ Ok 2
+size_again : (faces_a faces_b : ℕ) (p : Piece) (ps : List Piece) → column_in (file_for faces_a faces_b p ps) Int (length (p ∷ ps)) RingSize ≡ Ok 2
 unfolding column_in var_len lens_at name_of overlap_document placed
 size_again faces_a faces_b p ps = rw (not_zero (length (p ∷ ps)) (omega arith), same_true (length (p ∷ ps))) refl
 
@@ -94,7 +95,7 @@ corner_again : (faces_a faces_b : ℕ) (p : Piece) (ps : List Piece) → 1 ≤ c
 unfolding corner_in var_lens lens_at name_of overlap_document placed
 corner_again faces_a faces_b p ps some = rw (not_zero (corner_count_of (p ∷ ps)) some, same_true (corner_count_of (p ∷ ps))) refl
 
-five_again : (file : NcFile) (faces_a faces_b pieces corners : ℕ) → column_in file pieces Source ≡ Ok 0 → column_in file pieces Target ≡ Ok 1 → column_in file pieces RingSize ≡ Ok 2 → planes_in file ≡ Ok (3, corners) → corner_in file corners ≡ Ok 4
+five_again : (file : NcFile) (faces_a faces_b pieces corners : ℕ) → column_in file Int pieces Source ≡ Ok 0 → column_in file Int pieces Target ≡ Ok 1 → column_in file Int pieces RingSize ≡ Ok 2 → planes_in file ≡ Ok (3, corners) → corner_in file corners ≡ Ok 4
     → five_in file faces_a faces_b pieces ≡ Ok (record { faces_a = faces_a; faces_b = faces_b; pieces = pieces; corners = corners; vars = 0 ∷ 1 ∷ 2 ∷ 3 ∷ 4 ∷ [] })
 unfolding five_in
 five_again file faces_a faces_b pieces corners a b c d e = rw (a, b, c, d, e) refl

@@ -80,7 +80,7 @@ name_lengths : (length (name_bytes 2 (codes "source")) ≡ 12) × (length (name_
 unfolding name_bytes number_bytes width
 name_lengths = (refl, refl, refl, refl, refl)
 
-sum_of_five : (f : DocVar → ℕ) (a b c d e : DocVar) → sum_by f (a ∷ b ∷ c ∷ d ∷ e ∷ []) ≡ f a + f b + f c + f d + f e
+pub sum_of_five : (f : DocVar → ℕ) (a b c d e : DocVar) → sum_by f (a ∷ b ∷ c ∷ d ∷ e ∷ []) ≡ f a + f b + f c + f d + f e
 sum_of_five f a b c d e =
     omega (arith, sum_by-cons f a (b ∷ c ∷ d ∷ e ∷ []), sum_by-cons f b (c ∷ d ∷ e ∷ []), sum_by-cons f c (d ∷ e ∷ []), sum_by-cons f d (e ∷ []), sum_by-cons f e [])
 

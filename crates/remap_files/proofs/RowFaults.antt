@@ -1,87 +1,30 @@
 -- The first row at fault.
 use Rattle.std.proofs.Common.{◌≡◌, ◌<◌, ◌≤◌, ◌+◌, ◌*◌, ◌⊎◌, inl, inr, ℕ, zero, suc, ℤ, pos, Bool, true, false, not, cond, List, [], ◌∷◌, length, take, map, ◌≢◌, ◌==◌, if◌then◌else◌, Option, Some, None, Ok, Err, refl, ap, sym, subst, ◌∙◌, arith, unsigned_abs, slice_index_or}
-use Rattle.std.specs.List.{position_from, range_with_len, sum_by}
+use Rattle.std.specs.List.{range_with_len, sum_by}
 use Rattle.std.proofs.lemmas.Bool.{lt-ltb, le-ltb}
 use Rattle.std.proofs.lemmas.Bool.Decides.{nat_tests}
-use Rattle.std.proofs.lemmas.Iterator.Adapters.{position_from-zero}
 use Rattle.std.proofs.lemmas.List.Sums.{sum_by_push}
 use Rattle.std.proofs.Math.Seq.{take-suc}
 use Rattle.remap_files.specs.declared.vars.OverlapVars.{OverlapVars}
 use Rattle.remap_files.specs.declared.faults.FileFault.TheVariants.{Row}
 use Rattle.remap_files.specs.OverlapRows.{Columns, columns_of, ring_begin, ring_len, is_good_row, first_fault, rest_fault, row_fault, unless_fault, overlap_at, overlap_of, overlap_lens, piece_at}
 use Rattle.remap_files.specs.Rows.{HasFiveLists}
-
--- the first number that is not good, of so many from i on
-bad_from : (good : ℕ → Bool) (i n r : ℕ) → r < n → ((k : ℕ) → k < r → good (i + k) ≡ true) → good (i + r) ≡ false → position_from (λ k. not (good k)) i (range_with_len i n) ≡ Some (i + r)
-bad_from good i zero r below before bad = absurd (omega (arith, below))
-bad_from good i (suc m) zero below before bad =
-    let at : i + 0 ≡ i = omega arith in
-    let here : good i ≡ false = subst (λ j. good j ≡ false) at bad in
-    ap (λ b. cond (not b) (Some i) (position_from (λ k. not (good k)) (i + 1) (range_with_len (i + 1) m))) here ∙ ap (λ j. Some j) (sym at)
-bad_from good i (suc m) (suc q) below before bad =
-    let at : i + 0 ≡ i = omega arith in
-    let here : good i ≡ true = subst (λ j. good j ≡ true) at (before 0 (omega arith)) in
-    let behind : i + suc q ≡ i + 1 + q = omega arith in
-    ap (λ b. cond (not b) (Some i) (position_from (λ k. not (good k)) (i + 1) (range_with_len (i + 1) m))) here
-    ∙ bad_from good (i + 1) m q (omega (arith, below)) (λ k le. subst (λ j. good j ≡ true) (next k) (before (suc k) (omega (arith, le)))) (subst (λ j. good j ≡ false) behind bad)
-    ∙ ap (λ j. Some j) (sym behind)
-  where
-    next : (k : ℕ) → i + suc k ≡ i + 1 + k
-    next k = omega arith
-
-none_from : (good : ℕ → Bool) (i n : ℕ) → ((k : ℕ) → k < n → good (i + k) ≡ true) → position_from (λ k. not (good k)) i (range_with_len i n) ≡ None
-none_from good i zero all = refl
-none_from good i (suc m) all =
-    let at : i + 0 ≡ i = omega arith in
-    let here : good i ≡ true = subst (λ j. good j ≡ true) at (all 0 (omega arith)) in
-    ap (λ b. cond (not b) (Some i) (position_from (λ k. not (good k)) (i + 1) (range_with_len (i + 1) m))) here
-    ∙ none_from good (i + 1) m (λ k below. subst (λ j. good j ≡ true) (next k) (all (suc k) (omega (arith, below))))
-  where
-    next : (k : ℕ) → i + suc k ≡ i + 1 + k
-    next k = omega arith
-
-first_is_good : (b : Bool) (i : ℕ) (rest : Option ℕ) → cond (not b) (Some i) rest ≡ None → (b ≡ true) × (rest ≡ None)
-first_is_good true i rest h = (refl, h)
-first_is_good false i rest h = absurd cc
-
-all_from : (good : ℕ → Bool) (i n : ℕ) → position_from (λ k. not (good k)) i (range_with_len i n) ≡ None → (k : ℕ) → k < n → good (i + k) ≡ true
-all_from good i zero none k below = absurd (omega (arith, below))
-all_from good i (suc m) none zero below =
-    let at : i ≡ i + 0 = omega arith in
-    subst (λ j. good j ≡ true) at (first_is_good (good i) i (position_from (λ k. not (good k)) (i + 1) (range_with_len (i + 1) m)) none).0
-all_from good i (suc m) none (suc k) below =
-    let rest = (first_is_good (good i) i (position_from (λ k. not (good k)) (i + 1) (range_with_len (i + 1) m)) none).1 in
-    let next : i + 1 + k ≡ i + suc k = omega arith in
-    subst (λ j. good j ≡ true) next (all_from good (i + 1) m rest k (omega (arith, below)))
-
-from_none : (k : ℕ) → 0 + k ≡ k
-from_none k = omega arith
+use Rattle.remap_files.proofs.FirstNot.{one_more_good as one_more, first_is, none_is, all_good}
 
 -- rows up to a number are at no fault
 abbrev pub AreGood : OverlapVars → Columns → ℕ → Type 0
 AreGood v c n = (k : ℕ) → k < n → is_good_row v.faces_a v.faces_b c k ≡ true
 
 pub one_more_good : (v : OverlapVars) (c : Columns) (r : ℕ) → AreGood v c r → is_good_row v.faces_a v.faces_b c r ≡ true → AreGood v c (r + 1)
-one_more_good v c r before here k below =
-    elim (less_or_same k r (omega (arith, below))) [
-      | inl less ↦ before k less
-      | inr same ↦ subst (λ j. is_good_row v.faces_a v.faces_b c j ≡ true) (sym same) here
-    ]
-  where
-    less_or_same : (k r : ℕ) → k ≤ r → (k < r) ⊎ (k ≡ r)
-    less_or_same k r le = grind arith
+one_more_good v c r before here = one_more (is_good_row v.faces_a v.faces_b c) r before here
 
 pub row_is_bad : (v : OverlapVars) (c : Columns) (r : ℕ) → r < v.pieces → AreGood v c r → is_good_row v.faces_a v.faces_b c r ≡ false → row_fault v c ≡ Some (r + 1)
 unfolding row_fault
-row_is_bad v c r below before bad =
-    let good : ℕ → Bool = λ k. is_good_row v.faces_a v.faces_b c k in
-    ap (λ o. first_fault v.pieces c o) (position_from-zero (λ k. not (good k)) (range_with_len 0 v.pieces) ∙ bad_from good 0 v.pieces r below (λ k le. subst (λ j. good j ≡ true) (sym (from_none k)) (before k le)) (subst (λ j. good j ≡ false) (sym (from_none r)) bad) ∙ ap (λ j. Some j) (from_none r))
+row_is_bad v c r below before bad = ap (λ o. first_fault v.pieces c o) (first_is (is_good_row v.faces_a v.faces_b c) v.pieces r below before bad)
 
 no_bad_row : (v : OverlapVars) (c : Columns) → AreGood v c v.pieces → row_fault v c ≡ rest_fault v.pieces c
 unfolding row_fault
-no_bad_row v c all =
-    let good : ℕ → Bool = λ k. is_good_row v.faces_a v.faces_b c k in
-    ap (λ o. first_fault v.pieces c o) (position_from-zero (λ k. not (good k)) (range_with_len 0 v.pieces) ∙ none_from good 0 v.pieces (λ k le. subst (λ j. good j ≡ true) (sym (from_none k)) (all k le)))
+no_bad_row v c all = ap (λ o. first_fault v.pieces c o) (none_is (is_good_row v.faces_a v.faces_b c) v.pieces all)
 
 pub rest_is_bad : (v : OverlapVars) (c : Columns) → AreGood v c v.pieces → ring_begin c.ring_size v.pieces < length c.ring_plane → row_fault v c ≡ Some v.pieces
 rest_is_bad v c all past = no_bad_row v c all ∙ ap (λ b. cond b (Some v.pieces) None) (lt-ltb (ring_begin c.ring_size v.pieces) (length c.ring_plane) past)
@@ -96,9 +39,7 @@ first_none pieces c None h = refl
 -- where no row is at fault all rows are good
 pub all_are_good : (v : OverlapVars) (c : Columns) → row_fault v c ≡ None → AreGood v c v.pieces
 unfolding row_fault
-all_are_good v c none k below =
-    let good : ℕ → Bool = λ k. is_good_row v.faces_a v.faces_b c k in
-    subst (λ j. good j ≡ true) (from_none k) (all_from good 0 v.pieces (sym (position_from-zero (λ k. not (good k)) (range_with_len 0 v.pieces)) ∙ first_none v.pieces c _ none) k below)
+all_are_good v c none = all_good (is_good_row v.faces_a v.faces_b c) v.pieces (first_none v.pieces c _ none)
 
 pub fault_is : (v : OverlapVars) (values : List (List ℤ)) (r : ℕ) → row_fault v (columns_of values) ≡ Some r → overlap_of v values ≡ Err (Row r)
 unfolding overlap_of

@@ -124,18 +124,18 @@ piece_again pieces r below matched typed =
 
 -- No row is at fault.
 
-and_true : (a b : Bool) → a ≡ true → b ≡ true → (a && b) ≡ true
+pub and_true : (a b : Bool) → a ≡ true → b ≡ true → (a && b) ≡ true
 and_true true b ha hb = hb
 and_true false b ha hb = absurd cc
 
-or_true : (a b : Bool) → b ≡ true → (a || b) ≡ true
+pub or_true : (a b : Bool) → b ≡ true → (a || b) ≡ true
 or_true true b h = refl
 or_true false b h = h
 
-within_true : (low high n : ℕ) → low ≤ n → n ≤ high → is_within low high (pos n) ≡ true
+pub within_true : (low high n : ℕ) → low ≤ n → n ≤ high → is_within low high (pos n) ≡ true
 within_true low high n le ge = grind (arith, ints, le, ge)
 
-less_true : (m n : ℕ) → m < n → int_lt (pos m) (pos n) ≡ true
+pub less_true : (m n : ℕ) → m < n → int_lt (pos m) (pos n) ≡ true
 less_true m n h = grind (arith, ints, h)
 
 exceeds_true : (p q : Piece) → IsBefore p q → exceeds (pos p.a) (pos p.b) (pos q.a) (pos q.b) ≡ true

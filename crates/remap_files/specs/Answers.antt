@@ -33,3 +33,11 @@ IsOfNamesOrRows (Row r) = Unit {0}
 IsOfNamesOrRows (AreaA i) = ⊥
 IsOfNamesOrRows (AreaB j) = ⊥
 IsOfNamesOrRows NoMemory = Unit {0}
+
+-- no name is at fault
+abbrev pub IsOfRowsOrAreas : FileFault → Type 0
+IsOfRowsOrAreas (Name fault) = ⊥
+IsOfRowsOrAreas (Row r) = Unit {0}
+IsOfRowsOrAreas (AreaA i) = Unit {0}
+IsOfRowsOrAreas (AreaB j) = Unit {0}
+IsOfRowsOrAreas NoMemory = Unit {0}

@@ -5,3 +5,8 @@ pub mod OverlapRows
 pub mod OverlapIn
 pub mod Rows
 pub mod InColumns
+pub mod FirstNot
+pub mod MapDocument
+pub mod MapNames
+pub mod MapValues
+pub mod MapIn

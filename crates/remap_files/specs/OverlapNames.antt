@@ -3,6 +3,7 @@
 use Rattle.std.specs.Prelude.{ℕ, ℤ, pos, [], ◌∷◌, Bool, Result, Ok, Err, ◌==◌, ◌&&◌, if◌then◌else◌, int_le, unsigned_abs}
 use Rattle.nc_format.specs.declared.NcFile.{NcFile}
 use Rattle.nc_format.specs.Numbers.{att_named, one_int}
+use Rattle.exodus_mesh.specs.declared.kinds.NumberKind.{NumberKind}
 use Rattle.exodus_mesh.specs.declared.kinds.NumberKind.TheVariants.{Int}
 use Rattle.exodus_mesh.specs.declared.ids.NameId.{NameId}
 use Rattle.exodus_mesh.specs.declared.ids.NameId.TheVariants.{FacesA, FacesB, Pieces, Source, Target, RingSize, RingPlane, Corner}
@@ -29,12 +30,12 @@ count_in low high file id = do
   z ← att_in file id
   if is_within low high z then Ok (unsigned_abs z) else Err (Shape id)
 
--- 2. A variable with one length, which is the number of pieces.
-unfoldable pub column_in : NcFile → ℕ → NameId → Result ℕ NameFault
-column_in file pieces id = do
+-- 2. A variable of one dimension, with so many numbers.
+unfoldable pub column_in : NcFile → NumberKind → ℕ → NameId → Result ℕ NameFault
+column_in file kind count id = do
   place ← found_or (Missing id) (place_of file id)
-  len ← var_len file Int id place
-  same ← same_len id pieces len
+  len ← var_len file kind id place
+  same ← same_len id count len
   Ok place
 
 -- the variable of all rings, with its one length
@@ -56,9 +57,9 @@ corner_in file corners = do
 -- the five variables, in order, where there is a piece
 unfoldable pub five_in : NcFile → ℕ → ℕ → ℕ → Result OverlapVars NameFault
 five_in file faces_a faces_b pieces = do
-  source ← column_in file pieces Source
-  target ← column_in file pieces Target
-  size ← column_in file pieces RingSize
+  source ← column_in file Int pieces Source
+  target ← column_in file Int pieces Target
+  size ← column_in file Int pieces RingSize
   planes ← planes_in file
   corner ← corner_in file planes.1
   Ok (record { faces_a = faces_a; faces_b = faces_b; pieces = pieces; corners = planes.1; vars = source ∷ target ∷ size ∷ planes.0 ∷ corner ∷ [] })

@@ -1,7 +1,7 @@
 -- The pieces that the numbers of a file say, row by row, and the first row at fault. The whole form is our own.
 -- A row counts from 0 here, and from 1 in a fault.
-use Rattle.std.specs.Prelude.{ℕ, ◌+◌, ◌-◌, ◌*◌, ℤ, pos, List, [], ◌∷◌, length, map, take, drop, Bool, not, nat_lt, nat_le, ◌==◌, ◌&&◌, ◌||◌, int_lt, if◌then◌else◌, unsigned_abs, slice_index_or, Option, Some, None, Result, Ok, Err}
-use Rattle.std.specs.List.{list_all, position, range_with_len, sum_by}
+use Rattle.std.specs.Prelude.{ℕ, ◌+◌, ◌-◌, ◌*◌, ℤ, pos, List, [], ◌∷◌, length, map, take, drop, Bool, nat_lt, nat_le, ◌==◌, ◌&&◌, ◌||◌, int_lt, if◌then◌else◌, unsigned_abs, slice_index_or, Option, Some, None, Result, Ok, Err}
+use Rattle.std.specs.List.{list_all, range_with_len, sum_by}
 use Rattle.std.specs.Ordering.{int_eq}
 use Rattle.clip.specs.declared.pieces.Piece.{Piece}
 use Rattle.clip.specs.Overlaps.{OverlapParts}
@@ -10,6 +10,7 @@ use Rattle.remap_files.specs.declared.vars.OverlapVars.{OverlapVars}
 use Rattle.remap_files.specs.declared.faults.FileFault.{FileFault}
 use Rattle.remap_files.specs.declared.faults.FileFault.TheVariants.{Row}
 use Rattle.remap_files.specs.OverlapNames.{is_within}
+use Rattle.remap_files.specs.FirstNot.{first_not}
 
 -- the numbers of the five variables
 pub record Columns : Type 0 where
@@ -88,7 +89,7 @@ first_fault pieces c None = rest_fault pieces c
 
 -- the number of the first row at fault; it is that of the last row, where `ring_plane` goes on behind its ring
 unfoldable pub row_fault : OverlapVars → Columns → Option ℕ
-row_fault v c = first_fault v.pieces c (position (λ r. not (is_good_row v.faces_a v.faces_b c r)) (range_with_len 0 v.pieces))
+row_fault v c = first_fault v.pieces c (first_not (is_good_row v.faces_a v.faces_b c) v.pieces)
 
 -- the overlap with these counts and all rows
 abbrev pub overlap_at : OverlapVars → Columns → OverlapParts

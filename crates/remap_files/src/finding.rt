@@ -56,15 +56,21 @@ fn count(file: &NcFile, id: NameId, name: &[u8], low: u32, high: u32) -> Result<
     Ok(number.unsigned_abs())
 }
 
-// The place of a variable with one length, which is the number of pieces.
+/// The place of a variable of one dimension, with so many numbers of a kind.
 #[tactic(auto, unfolding(crate::specs::OverlapNames::column_in))]
-fn find_column(file: &NcFile, pieces: u32, id: NameId, name: &[u8]) -> Result<u32, NameFault>
+pub fn find_column(
+    file: &NcFile,
+    kind: NumberKind,
+    count: u32,
+    id: NameId,
+    name: &[u8],
+) -> Result<u32, NameFault>
     requires sound { IsSound file.now }
     requires name { name.now ≡ name_of [] id }
-    ensures { result ≡ column_in file.now pieces id }
+    ensures { result ≡ column_in file.now kind count id }
 {
     let place = find_named(file, id, name)?;
-    if var_len(file, NumberKind::Int, id, place)? != pieces {
+    if var_len(file, kind, id, place)? != count {
         return Err(NameFault::Shape(id));
     }
     Ok(place)
@@ -106,9 +112,15 @@ fn find_five(
     requires { IsSound file.now }
     ensures { Answers (λ vars. vars) result (five_in file.now faces_a faces_b pieces) }
 {
-    let source = find_column(file, pieces, NameId::Source, b"source")?;
-    let target = find_column(file, pieces, NameId::Target, b"target")?;
-    let size = find_column(file, pieces, NameId::RingSize, b"ring_size")?;
+    let source = find_column(file, NumberKind::Int, pieces, NameId::Source, b"source")?;
+    let target = find_column(file, NumberKind::Int, pieces, NameId::Target, b"target")?;
+    let size = find_column(
+        file,
+        NumberKind::Int,
+        pieces,
+        NameId::RingSize,
+        b"ring_size",
+    )?;
     let (plane, corners) = find_planes(file)?;
     let corner = find_corner(file, corners)?;
     let places = [source, target, size, plane, corner].to_vec(alloc)?;

@@ -1,4 +1,4 @@
-//! Overlaps in files.
+//! Overlaps and maps in files.
 #![tactic(auto)]
 
 mod column_document;
@@ -8,6 +8,10 @@ mod faults;
 mod finding;
 mod laws;
 mod lengths;
+mod map_document;
+mod map_finding;
+mod map_reading;
+mod map_values;
 mod names;
 mod reading;
 mod rows;
@@ -19,8 +23,12 @@ pub use column_document::{columns_doc, columns_length};
 pub use document::overlap_doc;
 pub use faults::FileFault;
 pub use finding::find_overlap;
-pub use laws::law_overlap_read_again;
+pub use laws::{law_map_read_again, law_overlap_read_again};
 pub use lengths::{corner_count, overlap_length};
+pub use map_document::{map_doc, map_length};
+pub use map_finding::find_map;
+pub use map_reading::read_map;
+pub use map_values::map_from;
 pub use reading::read_overlap;
 pub use rows::overlap_from;
-pub use vars::OverlapVars;
+pub use vars::{MapVars, OverlapVars};

@@ -25,7 +25,7 @@ fn lists(alloc: Global, file: &NcFile, bytes: &[u8], places: &[u32]) -> Result<V
 }
 
 // A fault of names is a fault of the file; want of memory stays want of memory.
-fn file_fault(fault: NameFault) -> FileFault
+pub fn file_fault(fault: NameFault) -> FileFault
     ensures { result ≡ file_fault_of fault }
 {
     match fault {

@@ -44,7 +44,7 @@ fn exceeds(before: (i32, i32), pair: (i32, i32)) -> bool
 
 // Whether the faces of row r, from 0, are faces of the meshes and come after those of the row before.
 #[tactic(auto, unfolding(crate::specs::OverlapRows::has_good_faces))]
-fn has_good_faces(faces_a: u32, faces_b: u32, source: &[i32], target: &[i32], r: usize) -> bool
+pub fn has_good_faces(faces_a: u32, faces_b: u32, source: &[i32], target: &[i32], r: usize) -> bool
     requires source { r < length source.now }
     requires target { r < length target.now }
     ensures { result ≡ has_good_faces faces_a faces_b source.now target.now r }
