@@ -1,5 +1,5 @@
 -- What holds of rows and areas that are at no fault, and of the map that they make.
-use Rattle.std.proofs.Common.{◌≡◌, ◌<◌, ◌≤◌, ◌+◌, ◌-◌, ◌⊎◌, inl, inr, ◌==◌, ℕ, zero, suc, ℤ, pos, negsuc, Bool, true, false, not, ◌&&◌, ◌≤ℤ◌, List, length, map, All, AllPairs, get_or, Some, None, Ok, Err, refl, ap, sym, subst, ◌∙◌, arith, unsigned_abs, slice_index_or}
+use Rattle.std.proofs.Common.{◌≡◌, ◌<◌, ◌≤◌, ◌+◌, ◌-◌, ◌⊎◌, inl, inr, ◌==◌, ℕ, zero, suc, ℤ, pos, negsuc, Bool, true, false, not, ◌&&◌, ◌≤ℤ◌, List, length, map, All, AllPairs, get_or, Option, Some, None, Ok, Err, refl, ap, ap₂, sym, subst, ◌∙◌, arith, unsigned_abs, slice_index_or}
 use Rattle.std.specs.List.{range_with_len}
 use Rattle.std.specs.Ordering.{int_eq}
 use Rattle.std.proofs.lemmas.Int.{ints}
@@ -38,6 +38,10 @@ pub map_is : (v : MapVars) (c : RowColumns) (a b : List ℤ) → first_not (is_g
     → first_not (is_sum_of_some b (areas_of target_of v.n_b (map_rows_of v.n_s c))) v.n_b ≡ None → map_of v c a b ≡ Ok (map_at v c a b)
 unfolding map_of map_fault
 map_is v c a b h k l = rw (h, k, l) refl
+
+-- the same, where the sums and the count are given by other names
+pub first_same : (test : List ℤ → List ℤ → ℕ → Bool) (areas sums others : List ℤ) (m n : ℕ) (found : Option ℕ) → sums ≡ others → m ≡ n → first_not (test areas sums) m ≡ found → first_not (test areas others) n ≡ found
+first_same test areas sums others m n found same count h = ap₂ (λ (l : List ℤ) (k : ℕ). first_not (test areas l) k) (sym same) (sym count) ∙ h
 
 -- Rows.
 

@@ -1,15 +1,23 @@
 // The map of a whole file.
-ghost use Rattle.std.specs.Prelude.{◌≡◌, length, IfOk, IfErr, Ok};
+ghost use Rattle.std.specs.Prelude.{◌≡◌, ◌<◌, length, slice_index, IfOk, IfErr, Ok};
 ghost use Rattle.nc_format.specs.Header.{IsHeader};
 ghost use Rattle.remap_files.specs.Answers.{Refuses};
 ghost use Rattle.remap_files.specs.MapIn.{map_in};
 
 use crate::reading::file_fault;
-use crate::{FileFault, find_map, map_from};
+use crate::{FileFault, MapVars, find_map, map_from};
 use exodus_mesh::{read_ints, read_longs};
 use map_rows::Map;
 use nc_format::{NcFile, law_first_fault};
 use std::alloc::Global;
+
+// The place of variable k of a map, from 0.
+fn place(vars: &MapVars, k: usize) -> u32
+    requires { k < length vars.now.vars }
+    ensures { result ≡ slice_index vars.now.vars k }
+{
+    vars.vars.items[k]
+}
 
 /// The map in the file with the bytes `bytes` and the header `file`.
 ///
@@ -26,12 +34,11 @@ pub fn read_map(alloc: Global, file: &NcFile, bytes: &[u8]) -> Result<Map, FileF
         Ok(vars) => vars,
         Err(fault) => return Err(file_fault(fault)),
     };
-    let places = vars.vars.items.as_slice();
-    let col = read_ints(alloc, file, bytes, places[0])?;
-    let row = read_ints(alloc, file, bytes, places[1])?;
-    let s = read_longs(alloc, file, bytes, places[2])?;
-    let area_a = read_longs(alloc, file, bytes, places[3])?;
-    let area_b = read_longs(alloc, file, bytes, places[4])?;
+    let col = read_ints(alloc, file, bytes, place(&vars, 0))?;
+    let row = read_ints(alloc, file, bytes, place(&vars, 1))?;
+    let s = read_longs(alloc, file, bytes, place(&vars, 2))?;
+    let area_a = read_longs(alloc, file, bytes, place(&vars, 3))?;
+    let area_b = read_longs(alloc, file, bytes, place(&vars, 4))?;
     map_from(
         alloc,
         &vars,

@@ -1,10 +1,10 @@
 // The map that the numbers of a file say.
-ghost use Rattle.std.specs.Prelude.{◌≡◌, ◌≤◌, ◌<◌, length, IfOk, IfErr, Ok};
+ghost use Rattle.std.specs.Prelude.{◌≡◌, ◌≤◌, ◌<◌, length, IfSome, IfOk, IfErr, Ok};
 ghost use Rattle.map_rows.specs.Maps.{IsFaceCount};
 ghost use Rattle.remap_files.specs.Answers.{Refuses, IsOfRowsOrAreas};
 ghost use Rattle.remap_files.specs.OverlapNames.{is_within};
 ghost use Rattle.remap_files.specs.FirstNot.{first_not};
-ghost use Rattle.remap_files.specs.MapValues.{is_good_map_row, map_rows_of, is_sum, is_sum_of_some, map_of};
+ghost use Rattle.remap_files.specs.MapValues.{is_good_map_row, map_row_at, map_rows_of, is_sum, is_sum_of_some, map_of};
 
 use crate::rows::has_good_faces;
 use crate::{FileFault, MapVars};
@@ -36,8 +36,9 @@ fn first_bad_row(vars: &MapVars, col: &[i32], row: &[i32], s: &[i64]) -> Option<
     requires col { length col.now ≡ vars.now.n_s }
     requires row { length row.now ≡ vars.now.n_s }
     requires s { length s.now ≡ vars.now.n_s }
-    ensures { result ≡ first_not (is_good_map_row vars.now.n_a vars.now.n_b
+    ensures first { result ≡ first_not (is_good_map_row vars.now.n_a vars.now.n_b
         (record { col = col.now; row = row.now; s = s.now })) vars.now.n_s }
+    ensures below { IfSome result (λ r. r < vars.now.n_s) }
 {
     for number in 0..vars.n_s {
         if !is_good_row(vars, col, row, s, number as usize) {
@@ -47,7 +48,20 @@ fn first_bad_row(vars: &MapVars, col: &[i32], row: &[i32], s: &[i64]) -> Option<
     None
 }
 
-// The rows, none of which is at fault.
+fn row_at(col: &[i32], row: &[i32], s: &[i64], r: usize) -> MapRow
+    requires col { r < length col.now }
+    requires row { r < length row.now }
+    requires s { r < length s.now }
+    ensures { result ≡ map_row_at (record { col = col.now; row = row.now; s = s.now }) r }
+{
+    MapRow {
+        col: col[r].unsigned_abs(),
+        row: row[r].unsigned_abs(),
+        s: s[r],
+    }
+}
+
+// The rows, as many as there are.
 fn make_rows(
     alloc: Global,
     vars: &MapVars,
@@ -63,12 +77,7 @@ fn make_rows(
 {
     let mut rows = Vec::with_capacity(alloc, vars.n_s as usize)?;
     for number in 0..vars.n_s {
-        let r = number as usize;
-        rows.push(MapRow {
-            col: col[r].unsigned_abs(),
-            row: row[r].unsigned_abs(),
-            s: s[r],
-        })?;
+        rows.push(row_at(col, row, s, number as usize))?;
     }
     Ok(rows)
 }
@@ -95,7 +104,8 @@ fn is_sum_of_some(areas: &[i64], sums: &[i64], k: usize) -> bool
 fn first_other_source(areas: &[i64], sums: &[i64]) -> Option<u32>
     requires few { length areas.now ≤ 1048576 }
     requires same { length sums.now ≡ length areas.now }
-    ensures { result ≡ first_not (is_sum areas.now sums.now) (length areas.now) }
+    ensures first { result ≡ first_not (is_sum areas.now sums.now) (length areas.now) }
+    ensures below { IfSome result (λ k. k < length areas.now) }
 {
     for k in 0..areas.len() {
         if !is_sum(areas, sums, k) {
@@ -109,7 +119,8 @@ fn first_other_source(areas: &[i64], sums: &[i64]) -> Option<u32>
 fn first_other_target(areas: &[i64], sums: &[i64]) -> Option<u32>
     requires few { length areas.now ≤ 1048576 }
     requires same { length sums.now ≡ length areas.now }
-    ensures { result ≡ first_not (is_sum_of_some areas.now sums.now) (length areas.now) }
+    ensures first { result ≡ first_not (is_sum_of_some areas.now sums.now) (length areas.now) }
+    ensures below { IfSome result (λ k. k < length areas.now) }
 {
     for k in 0..areas.len() {
         if !is_sum_of_some(areas, sums, k) {
