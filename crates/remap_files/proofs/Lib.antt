@@ -12,4 +12,5 @@ mod ColumnCounts
 pub mod MapLength
 mod FoundMap
 mod MapFaults
+mod ReadMaps
 mod MapAgain

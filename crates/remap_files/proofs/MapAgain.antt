@@ -34,9 +34,10 @@ use Rattle.remap_files.specs.OverlapRows.{at_row, exceeds, has_good_faces}
 use Rattle.remap_files.specs.MapDocument.{col_column, row_column, measure_column, map_document}
 use Rattle.remap_files.specs.MapNames.{list_in, map_vars_in}
 use Rattle.remap_files.specs.MapValues.{RowColumns, is_good_map_row, map_row_at, map_rows_of, is_sum, is_sum_of_some, map_at, map_of}
-use Rattle.remap_files.specs.MapIn.{map_list_in, row_columns_in, if_map_named, map_in}
+use Rattle.remap_files.specs.MapIn.{map_in}
 use Rattle.remap_files.proofs.FirstNot.{AllGood, none_is}
 use Rattle.remap_files.proofs.MapFaults.{map_is, rows_len}
+use Rattle.remap_files.proofs.ReadMaps.{map_in_is}
 use Rattle.remap_files.proofs.MapLength.{some_row, area_a_len, area_b_len, map_document_form}
 use Rattle.remap_files.proofs.RowsAgain.{and_true, or_true, within_true, less_true}
 
@@ -137,9 +138,6 @@ row_is rows r below = get_or-map (λ (q : MapRow). pos q.row) rows r any_row (po
 s_is : (rows : List MapRow) (r : ℕ) → r < length rows → at_row (measure_column rows) r ≡ (at rows r).s
 s_is rows r below = get_or-map measure_of rows r any_row (pos 0) below
 
-row_of : ℤ → ℤ → ℤ → MapRow
-row_of col row s = map_row_at (record { col = col ∷ []; row = row ∷ []; s = s ∷ [] }) 0
-
 one_again : (rows : List MapRow) (r : ℕ) → r < length rows → map_row_at (written rows) r ≡ at rows r
 one_again rows r below = rw (col_is rows r below, row_is rows r below, s_is rows r below) refl
 
@@ -200,10 +198,6 @@ again m h =
     map_is (vars_of m) c m.area_a m.area_b (none_is _ (length m.rows) (rows_good m h)) (none_is _ m.n_a (λ k below. sum_true m.area_a _ k sources))
     (none_is _ m.n_b (λ k below. and_true _ _ (sum_true m.area_b _ k targets) (some_true (at_row m.area_b k) (some k below))))
     ∙ ap (λ (rows : List MapRow). Ok (record { n_a = m.n_a; n_b = m.n_b; rows = rows; area_a = m.area_a; area_b = m.area_b })) same
-
-pub map_in_is : (file : NcFile) (bytes : List ℕ) (v : MapVars) → map_vars_in file ≡ Ok v → map_in file bytes ≡ map_of v (row_columns_in file bytes v) (map_list_in file bytes v 3) (map_list_in file bytes v 4)
-unfolding map_in
-map_in_is file bytes v h = ap (λ r. if_map_named file bytes r) h
 
 -- the file has one header alone
 pub map_again : (m : MapParts) (f : NcFile) → IsSoundMap m → IsHeader (file_of (map_document m)) (length (file_of (map_document m))) f → map_in f (file_of (map_document m)) ≡ Ok m

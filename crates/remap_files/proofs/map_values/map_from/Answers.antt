@@ -31,7 +31,7 @@ areas_of_rows-requires-clause-rows c =
 pub first_other_source-requires-clause-same : goal.first_other_source-requires-clause-same
 first_other_source-requires-clause-same c =
     let v = c.args.vars.now in
-    c.deref-2.ensures.len ∙ ap (length {A = ℤ}) c.in_ok-sums.ensures.source ∙ length-sums_of source_of measure_of v.n_a c.deref.result.now ∙ sym c.requires.area_a
+    ap (length {A = ℤ}) c.deref-2.ensures.value ∙ ap (length {A = ℤ}) c.in_ok-sums.ensures.source ∙ length-sums_of source_of measure_of v.n_a c.deref.result.now ∙ sym c.requires.area_a
 
 pub overflow_add-result-in-Some-first_other_source :
     goal.overflow_add-result-in-Some-first_other_source
@@ -50,7 +50,7 @@ returns-in-Some-first_other_source-clause-fault c =
 pub first_other_target-requires-clause-same : goal.first_other_target-requires-clause-same
 first_other_target-requires-clause-same c =
     let v = c.args.vars.now in
-    c.deref-3.ensures.len ∙ ap (length {A = ℤ}) c.in_ok-sums.ensures.target ∙ length-sums_of target_of measure_of v.n_b c.deref.result.now ∙ sym c.requires.area_b
+    ap (length {A = ℤ}) c.deref-3.ensures.value ∙ ap (length {A = ℤ}) c.in_ok-sums.ensures.target ∙ length-sums_of target_of measure_of v.n_b c.deref.result.now ∙ sym c.requires.area_b
 
 pub overflow_add-result-in-Some-first_other_target :
     goal.overflow_add-result-in-Some-first_other_target
