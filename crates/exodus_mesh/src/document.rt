@@ -81,10 +81,14 @@ pub fn mesh_doc(alloc: Global, raw: &RawMesh) -> Result<NcDoc, NoMemory>
 
     // It is a document that can be written, and its file has this length.
     ensures well_formed { IfOk result IsWellFormed }
-    ensures file_length { IfOk result (λ doc. length (file_of doc) ≡ 248 + 12 * length raw.now.nodes + 4 * (length raw.now.faces * width_of raw.now.faces)) }
+    ensures file_length { IfOk result
+        (λ doc. length (file_of doc)
+        ≡ 248 + 12 * length raw.now.nodes + 4 * (length raw.now.faces * width_of raw.now.faces)) }
 
     // An accepted mesh is read again from it.
-    ensures read_again { IfOk result (λ doc. IsAcceptedMesh raw.now → (f : NcFile) → IsHeader (file_of doc) (length (file_of doc)) f → mesh_in f (file_of doc) ≡ Ok raw.now) }
+    ensures read_again { IfOk result
+        (λ doc. IsAcceptedMesh raw.now → (f : NcFile)
+        → IsHeader (file_of doc) (length (file_of doc)) f → mesh_in f (file_of doc) ≡ Ok raw.now) }
 {
     let most = width(&raw.faces.items);
     triples(&raw.nodes.items);

@@ -10,5 +10,7 @@ ghost use Rattle.exodus_mesh.specs.MeshIn.{mesh_in, HasTriples};
 
 /// An accepted mesh is read again from the file of its document.
 pub fn law_mesh_read_again()
-    ensures { (raw : RawMesh) (f : NcFile) → IsAcceptedMesh raw → HasTriples raw → IsHeader (file_of (mesh_document raw)) (length (file_of (mesh_document raw))) f → mesh_in f (file_of (mesh_document raw)) ≡ Ok raw }
+    ensures { (raw : RawMesh) (f : NcFile) → IsAcceptedMesh raw → HasTriples raw
+        → IsHeader (file_of (mesh_document raw)) (length (file_of (mesh_document raw))) f
+        → mesh_in f (file_of (mesh_document raw)) ≡ Ok raw }
 {}

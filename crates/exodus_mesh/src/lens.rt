@@ -39,7 +39,9 @@ fn dims_at<'a>(
     id: NameId,
     place: u32,
 ) -> Result<&'a [u32], NameFault>
-    ensures dims { IfOk result (λ ids. lens_at file.now kind id place ≡ Ok (map (slice_index (lens_of file.now.dims)) ids.now)) }
+    ensures dims { IfOk result
+        (λ ids. lens_at file.now kind id place
+        ≡ Ok (map (slice_index (lens_of file.now.dims)) ids.now)) }
     ensures fault { IfErr result (λ fault. lens_at file.now kind id place ≡ Err fault) }
 {
     let Some(var) = var_at(file, place) else {
@@ -123,7 +125,8 @@ pub fn var_len(file: &NcFile, kind: NumberKind, id: NameId, place: u32) -> Resul
     ensures found { (n : ℕ) → (result ≡ Ok n) ↔ IsNumberVar kind file.now (n ∷ []) place }
     ensures missing { (result ≡ Err (NameFault.Missing id)) ↔ (length file.now.vars ≤ place) }
     ensures other_kind { (result ≡ Err (NameFault.Kind id)) ↔ HasOtherKind kind file.now place }
-    ensures other_shape { (result ≡ Err (NameFault.Shape id)) ↔ (HasKind kind file.now place × ((n : ℕ) → ¬ IsNumberVar kind file.now (n ∷ []) place)) }
+    ensures other_shape { (result ≡ Err (NameFault.Shape id)) ↔
+        (HasKind kind file.now place × ((n : ℕ) → ¬ IsNumberVar kind file.now (n ∷ []) place)) }
 {
     len_at(file, kind, id, place)
 }
@@ -144,10 +147,13 @@ pub fn var_lens(
     ensures lens { result ≡ var_lens file.now kind id place }
 
     // When it is two lengths, and when it is each fault.
-    ensures found { (n m : ℕ) → (result ≡ Ok (n, m)) ↔ IsNumberVar kind file.now (n ∷ m ∷ []) place }
+    ensures found { (n m : ℕ) → (result ≡ Ok (n, m)) ↔ IsNumberVar kind file.now
+        (n ∷ m ∷ []) place }
     ensures missing { (result ≡ Err (NameFault.Missing id)) ↔ (length file.now.vars ≤ place) }
     ensures other_kind { (result ≡ Err (NameFault.Kind id)) ↔ HasOtherKind kind file.now place }
-    ensures other_shape { (result ≡ Err (NameFault.Shape id)) ↔ (HasKind kind file.now place × ((n m : ℕ) → ¬ IsNumberVar kind file.now (n ∷ m ∷ []) place)) }
+    ensures other_shape { (result ≡ Err (NameFault.Shape id)) ↔
+        (HasKind kind file.now place
+        × ((n m : ℕ) → ¬ IsNumberVar kind file.now (n ∷ m ∷ []) place)) }
 {
     lens_at(file, kind, id, place)
 }

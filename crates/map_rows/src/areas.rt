@@ -17,7 +17,8 @@ fn add_measure(areas: &mut [i64], face: u32, measure: i64)
     requires face { (1 ≤ face) × (face ≤ length areas.old) }
     requires least { pos 0 ≤ℤ (slice_index_or areas.old (face - 1) (pos 0) +ℤ measure) }
     requires greatest { (slice_index_or areas.old (face - 1) (pos 0) +ℤ measure) <ℤ pos (2 ^ 63) }
-    ensures { areas.new ≡ slice_set areas.old (face - 1) (slice_index_or areas.old (face - 1) (pos 0) +ℤ measure) }
+    ensures { areas.new ≡ slice_set areas.old (face - 1)
+        (slice_index_or areas.old (face - 1) (pos 0) +ℤ measure) }
 {
     areas[face as usize - 1] += measure;
 }

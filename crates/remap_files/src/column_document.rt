@@ -21,8 +21,10 @@ use vec_exact::NoMemory;
 #[tactic(auto, using(crate::proofs::ColumnCounts::column_counts))]
 fn counts(columns: &Columns, faces_a: u32, faces_b: u32) -> (u32, u32)
     requires held { (o : OverlapParts) × IsInColumns o faces_a faces_b columns.now }
-    ensures pieces { (o : OverlapParts) → IsInColumns o faces_a faces_b columns.now → result.0 ≡ length o.pieces }
-    ensures corners { (o : OverlapParts) → IsInColumns o faces_a faces_b columns.now → result.1 ≡ corner_count_of o.pieces }
+    ensures pieces { (o : OverlapParts) → IsInColumns o faces_a faces_b columns.now
+        → result.0 ≡ length o.pieces }
+    ensures corners { (o : OverlapParts) → IsInColumns o faces_a faces_b columns.now
+        → result.1 ≡ corner_count_of o.pieces }
     ensures few { result.0 ≤ 8388608 }
     ensures most { result.1 ≤ 32 * result.0 }
 {
@@ -34,7 +36,8 @@ fn counts(columns: &Columns, faces_a: u32, faces_b: u32) -> (u32, u32)
 
 // The five variables, which take over the columns.
 fn column_variables(alloc: Global, columns: Columns) -> Result<Vec<DocVar>, AllocError>
-    ensures { (pieces : List OnePiece) → AreColumnsOf pieces columns → IfOk result (λ vars. vars.items ≡ overlap_vars pieces) }
+    ensures { (pieces : List OnePiece) → AreColumnsOf pieces columns
+        → IfOk result (λ vars. vars.items ≡ overlap_vars pieces) }
 {
     let mut vars = Vec::with_capacity(alloc, 5)?;
     vars.push(make_variable(alloc, "source", &[0], ints(columns.sources))?)?;
@@ -54,7 +57,8 @@ fn document_of(
     columns: Columns,
 ) -> Result<NcDoc, AllocError>
     requires held { (o : OverlapParts) × IsInColumns o faces_a faces_b columns }
-    ensures { (o : OverlapParts) → IsInColumns o faces_a faces_b columns → IfOk result (λ doc. doc ≡ overlap_document o) }
+    ensures { (o : OverlapParts) → IsInColumns o faces_a faces_b columns
+        → IfOk result (λ doc. doc ≡ overlap_document o) }
 {
     let (pieces, corners) = counts(&columns, faces_a, faces_b);
     let (dims, vars) = if pieces == 0 {
@@ -84,7 +88,8 @@ pub fn columns_doc(
     columns: Columns,
 ) -> Result<NcDoc, NoMemory>
     requires held { (o : OverlapParts) × IsInColumns o faces_a faces_b columns }
-    ensures document { (o : OverlapParts) → IsInColumns o faces_a faces_b columns → IfOk result (λ doc. doc ≡ overlap_document o) }
+    ensures document { (o : OverlapParts) → IsInColumns o faces_a faces_b columns
+        → IfOk result (λ doc. doc ≡ overlap_document o) }
     ensures well_formed { IfOk result IsWellFormed }
 {
     let doc = document_of(alloc, faces_a, faces_b, columns)?;
@@ -95,7 +100,8 @@ pub fn columns_doc(
 /// the document is made.
 pub fn columns_length(faces_a: u32, faces_b: u32, columns: &Columns) -> u64
     requires held { (o : OverlapParts) × IsInColumns o faces_a faces_b columns.now }
-    ensures { (o : OverlapParts) → IsInColumns o faces_a faces_b columns.now → result ≡ length (file_of (overlap_document o)) }
+    ensures { (o : OverlapParts) → IsInColumns o faces_a faces_b columns.now
+        → result ≡ length (file_of (overlap_document o)) }
 {
     let (pieces, corners) = counts(columns, faces_a, faces_b);
     overlap_length(u64::from(pieces), u64::from(corners))

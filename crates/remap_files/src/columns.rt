@@ -72,7 +72,8 @@ fn put_corner(values: &mut Vec<i32>, corner: &[i32; 3]) -> Result<(), AllocError
 }
 
 fn put_corners(values: &mut Vec<i32>, corners: &[[i32; 3]]) -> Result<(), AllocError>
-    ensures values { OnOk result (values.new.items ≡ values.old.items ++ flat_map triple_of corners.now) }
+    ensures values { OnOk result
+        (values.new.items ≡ values.old.items ++ flat_map triple_of corners.now) }
     // Each corner is three numbers of 32 bits, as its type says.
     ensures typed { OnOk result (All IsCorner corners.now) }
 {

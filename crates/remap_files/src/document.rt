@@ -113,10 +113,14 @@ pub fn overlap_doc(alloc: Global, overlap: &Overlap) -> Result<NcDoc, NoMemory>
 
     // It is a document that can be written, and its file has this length.
     ensures well_formed { IfOk result IsWellFormed }
-    ensures file_length { IfOk result (λ doc. length (file_of doc) ≡ overlap_file_len (length overlap.now.pieces) (corner_count_of overlap.now.pieces)) }
+    ensures file_length { IfOk result
+        (λ doc. length (file_of doc)
+        ≡ overlap_file_len (length overlap.now.pieces) (corner_count_of overlap.now.pieces)) }
 
     // The overlap is read again from it.
-    ensures read_again { IfOk result (λ doc. (f : NcFile) → IsHeader (file_of doc) (length (file_of doc)) f → overlap_in f (file_of doc) ≡ Ok overlap.now) }
+    ensures read_again { IfOk result
+        (λ doc. (f : NcFile) → IsHeader (file_of doc) (length (file_of doc)) f
+        → overlap_in f (file_of doc) ≡ Ok overlap.now) }
 {
     let doc = make_document(alloc, overlap)?;
     Ok(doc)

@@ -23,7 +23,8 @@ pub fn overlap_length(pieces: u64, corners: u64) -> u64
     requires corners { corners ≤ 32 * pieces }
     ensures formula { result ≡ overlap_file_len pieces corners }
     // It is the length of the one file of the document of each such overlap.
-    ensures file_length { (o : OverlapParts) → IsSoundOverlap o → length o.pieces ≡ pieces → corner_count_of o.pieces ≡ corners → length (file_of (overlap_document o)) ≡ result }
+    ensures file_length { (o : OverlapParts) → IsSoundOverlap o → length o.pieces ≡ pieces
+        → corner_count_of o.pieces ≡ corners → length (file_of (overlap_document o)) ≡ result }
 {
     if pieces == 0 {
         return 104;

@@ -11,6 +11,8 @@ mod lengths;
 mod map_document;
 mod map_finding;
 mod map_reading;
+#[cfg(test)]
+mod map_tests;
 mod map_values;
 mod names;
 mod reading;

@@ -66,7 +66,8 @@ fn longs(items: Vec<i64>) -> Values
 }
 
 fn make_variables(alloc: Global, map: &Map) -> Result<Vec<DocVar>, AllocError>
-    ensures { IfOk result (λ vars. vars.items ≡ map_vars map.now.rows map.now.area_a map.now.area_b) }
+    ensures { IfOk result (λ vars. vars.items
+        ≡ map_vars map.now.rows map.now.area_a map.now.area_b) }
 {
     let rows = map.rows.items.as_slice();
     let mut vars = Vec::with_capacity(alloc, 5)?;

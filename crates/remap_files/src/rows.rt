@@ -151,7 +151,8 @@ fn make_piece(
     requires lists { HasFiveLists vars.now values.now }
     requires row { r < vars.now.pieces }
     requires begin { begin ≡ ring_begin (columns_of values.now).ring_size r }
-    requires ring { IsGoodRing (columns_of values.now).ring_size (columns_of values.now).ring_plane r }
+    requires ring { IsGoodRing (columns_of values.now).ring_size
+        (columns_of values.now).ring_plane r }
     ensures { IfOk result (λ p. p ≡ piece_at (columns_of values.now) r) }
 {
     let len = ring_len(values, r);
@@ -171,7 +172,9 @@ fn make_pieces(alloc: Global, vars: &OverlapVars, values: &[Ints]) -> Result<Vec
     requires lists { HasFiveLists vars.now values.now }
     requires count { vars.now.pieces ≤ 8388608 }
     ensures good { IfOk result (λ _. row_fault vars.now (columns_of values.now) ≡ None) }
-    ensures pieces { IfOk result (λ pieces. pieces.items ≡ map (piece_at (columns_of values.now)) (range_with_len 0 vars.now.pieces)) }
+    ensures pieces { IfOk result
+        (λ pieces. pieces.items ≡ map (piece_at (columns_of values.now))
+        (range_with_len 0 vars.now.pieces)) }
     ensures fault { IfErr result (λ fault. Refuses fault (overlap_of vars.now values.now)) }
     ensures of_rows { IfErr result IsOfRows }
 {
