@@ -50,7 +50,7 @@ fn column_variables(alloc: Global, columns: Columns) -> Result<Vec<DocVar>, Allo
 
 // The document, with the counts of pieces and of corners at hand.
 #[tactic(auto, unfolding(crate::specs::OverlapDocument::overlap_document))]
-fn document_of(
+pub fn document_of(
     alloc: Global,
     faces_a: u32,
     faces_b: u32,

@@ -1,21 +1,22 @@
 // The document of an overlap.
 ghost use Rattle.std.specs.Prelude.{◌≡◌, ◌≤◌, ◌<◌, ◌^◌, ◌*◌, All, length, IfOk, OnOk, Ok};
-ghost use Rattle.clip.specs.Overlaps.{HasSmallNumbers, IsSoundOverlap};
+ghost use Rattle.clip.specs.Columns.{AreColumnsOf};
+ghost use Rattle.clip.specs.Overlaps.{IsSoundOverlap};
 ghost use Rattle.nc_write.specs.File.{file_of};
 ghost use Rattle.nc_write.specs.Form.{IsWellFormed};
 ghost use Rattle.nc_write.specs.declared.Values.TheVariants.{Byte, Int};
-ghost use Rattle.clip.specs.declared.pieces.Piece.{Piece};
 ghost use Rattle.nc_format.specs.declared.NcFile.{NcFile};
 ghost use Rattle.nc_format.specs.Header.{IsHeader};
 ghost use Rattle.remap_files.specs.OverlapIn.{overlap_in};
-ghost use Rattle.remap_files.specs.OverlapDocument.{IsCorner, HasCorners, corner_count_of, overlap_atts, overlap_dims, overlap_vars, overlap_document, overlap_file_len};
+ghost use Rattle.remap_files.specs.OverlapDocument.{HasCorners, corner_count_of, overlap_atts, overlap_dims, overlap_document, overlap_file_len};
 
+use crate::column_document::document_of;
 use crate::columns::{corners, ring_planes, ring_sizes, sources, targets};
 use crate::lengths::corner_count;
-use crate::names::{make_attribute, make_variable};
-use clip::{Overlap, Piece};
+use crate::names::make_attribute;
+use clip::{Columns, Overlap};
 use exodus_mesh::make_dimension;
-use nc_write::{Bytes8, DocAtt, DocAtts, DocDim, DocDims, DocVar, DocVars, NcDoc, Values};
+use nc_write::{Bytes8, DocAtt, DocDim, NcDoc, Values};
 use std::alloc::{AllocError, Global};
 use vec_exact::{Ints, NoMemory};
 
@@ -59,48 +60,20 @@ pub fn bytes(items: Vec<i8>) -> Values
     Values::Byte(Bytes8 { items })
 }
 
-fn make_variables(alloc: Global, pieces: &[Piece], count: usize) -> Result<Vec<DocVar>, AllocError>
-    requires numbers { All HasSmallNumbers pieces.now }
-    requires count { count < 2 ^ 32 }
-    ensures vars { IfOk result (λ vars. vars.items ≡ overlap_vars pieces.now) }
-    ensures typed { OnOk result (All (λ (p : Piece). All IsCorner p.corners) pieces.now) }
-{
-    let mut vars = Vec::with_capacity(alloc, 5)?;
-    let source = ints(sources(alloc, pieces)?);
-    vars.push(make_variable(alloc, "source", &[0], source)?)?;
-    let target = ints(targets(alloc, pieces)?);
-    vars.push(make_variable(alloc, "target", &[0], target)?)?;
-    let size = bytes(ring_sizes(alloc, pieces)?);
-    vars.push(make_variable(alloc, "ring_size", &[0], size)?)?;
-    let plane = bytes(ring_planes(alloc, pieces, count)?);
-    vars.push(make_variable(alloc, "ring_plane", &[1], plane)?)?;
-    let corner = ints(corners(alloc, pieces, count)?);
-    vars.push(make_variable(alloc, "corner", &[1, 2], corner)?)?;
-    Ok(vars)
-}
-
-#[tactic(auto, unfolding(crate::specs::OverlapDocument::overlap_document))]
-fn make_document(alloc: Global, overlap: &Overlap) -> Result<NcDoc, AllocError>
-    ensures document { IfOk result (λ doc. doc ≡ overlap_document overlap.now) }
+// The columns of the pieces of an overlap.
+fn columns_of(alloc: Global, overlap: &Overlap) -> Result<Columns, AllocError>
+    ensures columns { IfOk result (λ columns. AreColumnsOf overlap.now.pieces columns) }
     ensures kept { IsSoundOverlap overlap.now }
     ensures typed { OnOk result (HasCorners overlap.now) }
 {
     let pieces = &overlap.pieces.items;
-    let (dims, vars) = if pieces.is_empty() {
-        (Vec::new(alloc), Vec::new(alloc))
-    } else {
-        let count = corner_count(overlap);
-        (
-            make_dimensions(alloc, pieces.len() as u32, count as u32)?,
-            make_variables(alloc, pieces, count as usize)?,
-        )
-    };
-    let atts = make_attributes(alloc, overlap.faces_a, overlap.faces_b, pieces.len() as u32)?;
-    Ok(NcDoc {
-        records: 0,
-        dims: DocDims { items: dims },
-        atts: DocAtts { items: atts },
-        vars: DocVars { items: vars },
+    let count = corner_count(overlap) as usize;
+    Ok(Columns {
+        sources: sources(alloc, pieces)?,
+        targets: targets(alloc, pieces)?,
+        ring_sizes: ring_sizes(alloc, pieces)?,
+        ring_planes: ring_planes(alloc, pieces, count)?,
+        corners: corners(alloc, pieces, count)?,
     })
 }
 
@@ -122,6 +95,7 @@ pub fn overlap_doc(alloc: Global, overlap: &Overlap) -> Result<NcDoc, NoMemory>
         (λ doc. (f : NcFile) → IsHeader (file_of doc) (length (file_of doc)) f
         → overlap_in f (file_of doc) ≡ Ok overlap.now) }
 {
-    let doc = make_document(alloc, overlap)?;
+    let columns = columns_of(alloc, overlap)?;
+    let doc = document_of(alloc, overlap.faces_a, overlap.faces_b, columns)?;
     Ok(doc)
 }
