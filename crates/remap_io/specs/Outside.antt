@@ -50,6 +50,7 @@ abbrev pub IsPutRefusal : SinkSeen → SinkSeen → PutErr → Type 0
 IsPutRefusal old new put.Failed = Rose old.faults new.faults
 IsPutRefusal old new put.NoMemory = Rose old.refusals new.refusals
 
--- the counts of a sink don't fall
-abbrev pub NoPutCountFalls : SinkSeen → SinkSeen → Type 0
-NoPutCountFalls old new = IsLater old.faults new.faults × IsLater old.refusals new.refusals
+-- no count of a sink falls
+pub record NoPutCountFalls (old new : SinkSeen) : Type 0 where
+  pub faults : IsLater old.faults new.faults
+  pub refusals : IsLater old.refusals new.refusals

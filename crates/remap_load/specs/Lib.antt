@@ -1,4 +1,3 @@
-pub mod Faults
-pub mod Frame
 pub mod Heads
+pub mod Loading
 pub mod Pieces
