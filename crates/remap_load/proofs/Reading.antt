@@ -1,6 +1,6 @@
 -- Reads of a file, one after another.
 use Rattle.std.proofs.Common.{◌≡◌, ◌≤◌, ◌+◌, ◌∙◌, ℕ, List, length, Option, None, Some, Result, Ok, Err, IsErrAnd, subst, sym, arith}
-use Rattle.std.specs.Prelude.{IfOk, IfErr}
+use Rattle.std.specs.Prelude.{IfOk, IfErr, OnOk}
 use Rattle.remap_io.specs.Folder.{Folder, OnFile, OnNoFile}
 use Rattle.nc_format.specs.Header.{first_fault}
 use Rattle.remap_io.specs.Outside.{FilesSeen, OnlyReads}
@@ -59,3 +59,7 @@ each_fault P Q (Err e) f h = f e h
 pub each_ok : {A E : Type 0} (P Q : A → Type 0) (r : Result A E) → ((x : A) → P x → Q x) → IfOk r P → IfOk r Q
 each_ok P Q (Ok x) f h = f x h
 each_ok P Q (Err e) f h = tt
+
+pub ok_holds : {A E : Type 0} (r : Result A E) {P : Type 0} → P → OnOk r P
+ok_holds (Ok x) h = h
+ok_holds (Err e) h = tt

@@ -5,6 +5,7 @@ mod fault;
 mod header;
 mod numbers;
 mod reads;
+mod refusal;
 #[cfg(test)]
 mod tests;
 mod variables;
@@ -13,6 +14,7 @@ pub use fault::LoadFault;
 pub use header::load_header;
 use nc_format::{Bytes, NcFile};
 pub use numbers::Numbers;
+pub use refusal::FileRefusal;
 pub use variables::{load_ints, load_lists, load_longs, load_numbers};
 
 /// The head of a file: its header, its length in bytes, and the first bytes of it, which were read
