@@ -39,3 +39,6 @@ reads_nothing a = record {
   same_folder = refl;
   counts = record { faults = later_same a.faults; write_faults = later_same a.write_faults; misses = later_same a.misses; taken = later_same a.taken };
 }
+
+pub no_put_falls : (a : SinkSeen) → NoPutCountFalls a a
+no_put_falls a = record { faults = later_same a.faults; refusals = later_same a.refusals }

@@ -17,7 +17,7 @@ use Rattle.remap_load.specs.declared.fault.LoadFault.TheVariants.{Absent, Failed
 use Rattle.remap_load.specs.declared.refusal.FileRefusal.{FileRefusal}
 use Rattle.remap_load.specs.declared.refusal.FileRefusal.TheVariants.{Load, Content}
 use Rattle.remap_load.specs.Heads.{IsHead, IsHeadOfBytes, header_cost}
-use Rattle.remap_load.specs.Kinds.{FileKind, IsNetcdf, HasContent, HasFault, IsRefusedBytes, IsRefusedName, IsFile, IsRefusedFile, IsFileRefusal, IsCutOff, read_cost, bytes_cost, head_cost, file_cost}
+use Rattle.remap_load.specs.Kinds.{FileKind, IsNetcdf, HasContent, HasFault, IsRefusedBytes, IsRefusedName, IsFile, IsRefusedFile, IsFileRefusal, IsToldRefusal, IsCutOff, read_cost, bytes_cost, head_cost, file_cost}
 
 -- A header and bytes hold one thing of the kind, or have one fault of it.
 pub record IsLawful {A C : Type 0} (kind : FileKind A C) : Type 0 where
@@ -275,3 +275,11 @@ handed {A = A} {C = C} P r why is p = subst (λ (x : Result A (FileRefusal C)). 
 pub handed_on : {A C : Type 0} (P : FileRefusal C → Type 0) (r : Result A (FileRefusal C)) (why : FileRefusal C) → IsErrAnd r (λ e. e ≡ why) → P why → IfErr r P
 handed_on P (Ok x) why h p = tt
 handed_on P (Err e) why h p = subst P (sym h) p
+
+pub told_of : {A C : Type 0} (kind : FileKind A C) (old new : FilesSeen) (name : List ℕ) (why : FileRefusal C) → IsFileRefusal kind old new name why → IsToldRefusal kind why
+told_of kind old new name (Load Absent) h = tt
+told_of kind old new name (Load Failed) h = tt
+told_of kind old new name (Load (TooLong n)) h = h.0
+told_of kind old new name (Load (Format e)) h = h.0
+told_of kind old new name (Load NoMemory) h = tt
+told_of kind old new name (Content c) h = h.0

@@ -1,10 +1,11 @@
 -- What a file of some kind holds, or why it holds none. A kind of file is given by what its header and its bytes hold and by the
 -- first fault that they have otherwise. Source: our own; the order of refusals is that of the command line.
-use Rattle.std.specs.Prelude.{◌≡◌, ◌⊎◌, ◌<◌, ◌≤◌, ◌+◌, ℕ, List, length, Option, Some, None, Result, Ok, Err, IsSomeAnd}
+use Rattle.std.specs.Prelude.{◌≡◌, ◌≢◌, ◌⊎◌, ◌<◌, ◌≤◌, ◌+◌, ℕ, List, length, Option, Some, None, Result, Ok, Err, IsSomeAnd, ⊤}
 use Rattle.remap_io.specs.Folder.{Folder, file_at, OnFile}
 use Rattle.remap_io.specs.Outside.{FilesSeen}
 use Rattle.nc_format.specs.declared.NcFile.{NcFile}
 use Rattle.nc_format.specs.declared.fault.NcFault.{NcFault}
+use Rattle.nc_format.specs.declared.fault.NcFault.TheVariants.{NoMemory as WantOfMemory}
 use Rattle.nc_format.specs.Placing.{with_places}
 use Rattle.nc_format.specs.Header.{IsHeader, first_fault, header_read}
 use Rattle.remap_load.specs.declared.fault.LoadFault.TheVariants.{Absent, Failed, TooLong, Format, NoMemory}
@@ -89,3 +90,13 @@ head_cost m name = bytes_cost (λ file. 0) (file_at m name)
 -- For what a name holds: the same, and the bytes of the variables that are needed.
 unfoldable pub file_cost : {A C : Type 0} → FileKind A C → Folder → List ℕ → ℕ
 file_cost kind m name = bytes_cost kind.needed (file_at m name)
+
+-- What can be told of a refusal, also where the folder isn't told: a file that is too long has more than 2,147,483,647 bytes, and
+-- a fault of the header or of what the file holds isn't want of memory.
+abbrev pub IsToldRefusal : {A C : Type 0} → FileKind A C → FileRefusal C → Type 0
+IsToldRefusal kind (Load Absent) = ⊤
+IsToldRefusal kind (Load Failed) = ⊤
+IsToldRefusal kind (Load (TooLong n)) = 2147483647 < n
+IsToldRefusal kind (Load (Format fault)) = fault ≢ WantOfMemory
+IsToldRefusal kind (Load NoMemory) = ⊤
+IsToldRefusal kind (Content fault) = kind.IsFault fault
