@@ -1,6 +1,3 @@
-pub mod BlockPlaces
-pub mod Filled
-pub mod Loaded
-pub mod OneAnswer
+pub mod OneMesh
+pub mod Raw
 pub mod RawCounts
-pub mod Refused

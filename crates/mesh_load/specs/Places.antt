@@ -1,9 +1,9 @@
--- Places of variables whose type is BYTE, SHORT or INT.
-use Rattle.std.specs.Prelude.{ℕ, List}
-use Rattle.nc_format.specs.declared.NcFile.{NcFile}
-use Rattle.exodus_mesh.specs.Found.{IsIntVar}
+-- The places of the variables of a mesh. No public contract cites this file.
+use Rattle.std.specs.Prelude.{ℕ, List, [], ◌∷◌}
+use Rattle.exodus_mesh.specs.declared.vars.CoordVars.{CoordVars}
+use Rattle.exodus_mesh.specs.declared.vars.CoordVars.TheVariants.{Whole, Split}
 
--- at this place stands such a variable, of some lengths
-pub record IsSomeIntVar (file : NcFile) (place : ℕ) : Type 0 where
-  pub lens : List ℕ
-  pub var_is : IsIntVar file lens place
+-- those of the coordinates
+abbrev pub coord_places : CoordVars → List ℕ
+coord_places (Whole coord) = coord ∷ []
+coord_places (Split x y z) = x ∷ y ∷ z ∷ []

@@ -1,44 +1,28 @@
 // Refusals by the faults that they come from.
 ghost use Rattle.std.specs.Prelude.{◌≡◌};
-ghost use Rattle.mesh_load.specs.Refusals.{refusal_of_load, refusal_of_names, refusal_of_mesh};
+ghost use Rattle.mesh_load.specs.Refusals.{refusal_of_names, refusal_of_mesh};
 
-use crate::MeshRefusal;
+use crate::{MeshFileFault, MeshRefusal};
 use exodus_mesh::NameFault;
 use mesh_check::MeshFault;
-use remap_load::LoadFault;
+use remap_load::{FileRefusal, LoadFault};
 
-impl From<LoadFault> for MeshRefusal {
-    ghost from_gives = { λ fault refusal. refusal ≡ refusal_of_load fault };
-
-    fn from(fault: LoadFault) -> Self {
-        match fault {
-            LoadFault::Absent => MeshRefusal::NoFile,
-            LoadFault::Failed => MeshRefusal::ReadFault,
-            LoadFault::TooLong(len) => MeshRefusal::TooLong(len),
-            LoadFault::Format(fault) => MeshRefusal::Format(fault),
-            LoadFault::NoMemory => MeshRefusal::NoMemory,
-        }
+/// The refusal of a fault of names.
+pub fn of_names(fault: NameFault) -> MeshRefusal
+    ensures { result ≡ refusal_of_names fault }
+{
+    match fault {
+        NameFault::NoMemory => FileRefusal::Load(LoadFault::NoMemory),
+        _ => FileRefusal::Content(MeshFileFault::Names(fault)),
     }
 }
 
-impl From<NameFault> for MeshRefusal {
-    ghost from_gives = { λ fault refusal. refusal ≡ refusal_of_names fault };
-
-    fn from(fault: NameFault) -> Self {
-        match fault {
-            NameFault::NoMemory => MeshRefusal::NoMemory,
-            _ => MeshRefusal::Names(fault),
-        }
-    }
-}
-
-impl From<MeshFault> for MeshRefusal {
-    ghost from_gives = { λ fault refusal. refusal ≡ refusal_of_mesh fault };
-
-    fn from(fault: MeshFault) -> Self {
-        match fault {
-            MeshFault::NoMemory => MeshRefusal::NoMemory,
-            _ => MeshRefusal::Mesh(fault),
-        }
+/// The refusal of a fault of a mesh.
+pub fn of_mesh(fault: MeshFault) -> MeshRefusal
+    ensures { result ≡ refusal_of_mesh fault }
+{
+    match fault {
+        MeshFault::NoMemory => FileRefusal::Load(LoadFault::NoMemory),
+        _ => FileRefusal::Content(MeshFileFault::Mesh(fault)),
     }
 }

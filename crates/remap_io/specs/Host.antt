@@ -1,6 +1,7 @@
 -- What is told of the real files and writers: counts, and nothing of what files hold.
-use Rattle.std.specs.Prelude.{ℕ, List, Option}
+use Rattle.std.specs.Prelude.{ℕ, List, Option, None}
 use Rattle.remap_io.specs.Causes.{held_sum}
+use Rattle.remap_io.specs.Outside.{FilesSeen, SinkSeen}
 
 -- the counts of a `HostFiles`
 pub record HostCounts : Type 0 where
@@ -17,3 +18,10 @@ with_asked counts asked = record counts { taken = held_sum counts.taken asked }
 pub record WriterState : Type 0 where
   pub written : Option (List ℕ)
   pub faults : ℕ
+
+-- what each of them shows
+abbrev pub seen_of_host : HostCounts → FilesSeen
+seen_of_host s = record { folder = None; faults = s.faults; write_faults = s.write_faults; misses = s.misses; taken = s.taken }
+
+abbrev pub seen_of_writer : WriterState → SinkSeen
+seen_of_writer s = record { contents = None; faults = s.faults; refusals = 0 }

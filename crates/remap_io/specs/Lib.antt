@@ -3,4 +3,5 @@ pub mod Folder
 pub mod Held
 pub mod Host
 pub mod Memory
+pub mod Outside
 pub mod Store

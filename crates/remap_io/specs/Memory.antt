@@ -1,7 +1,8 @@
 -- Files and sinks in memory, as callers see them.
-use Rattle.std.specs.Prelude.{ℕ, List, ◌++◌, take, Contains}
+use Rattle.std.specs.Prelude.{ℕ, List, Some, ◌++◌, take, Contains}
 use Rattle.remap_io.specs.Causes.{held_sum}
 use Rattle.remap_io.specs.Folder.{Folder, with_file}
+use Rattle.remap_io.specs.Outside.{FilesSeen, SinkSeen}
 use Rattle.remap_io.specs.declared.mem_files.Torn.{Torn}
 use Rattle.remap_io.specs.declared.mem_files.Torn.TheVariants.{Old, First}
 
@@ -37,6 +38,19 @@ pub record SinkState : Type 0 where
 pub record SteadySinkState : Type 0 where
   pub bytes : List ℕ
   pub refusals : ℕ
+
+-- what each of them shows
+abbrev pub seen_of_files : FilesState → FilesSeen
+seen_of_files s = record { folder = Some s.folder; faults = s.faults; write_faults = s.write_faults; misses = s.misses; taken = s.taken }
+
+abbrev pub seen_of_steady_files : SteadyFilesState → FilesSeen
+seen_of_steady_files s = record { folder = Some s.folder; faults = 0; write_faults = 0; misses = s.misses; taken = s.taken }
+
+abbrev pub seen_of_sink : SinkState → SinkSeen
+seen_of_sink s = record { contents = Some s.bytes; faults = s.faults; refusals = s.refusals }
+
+abbrev pub seen_of_steady_sink : SteadySinkState → SinkSeen
+seen_of_steady_sink s = record { contents = Some s.bytes; faults = 0; refusals = s.refusals }
 
 -- after so many calls the next one is to fail: its number stands in the list
 abbrev pub IsToFail : List ℕ → ℕ → Type 0

@@ -1,8 +1,9 @@
 // The real files and writers, of whose content nothing is told.
 ghost use Rattle.std.specs.Io.KnownBytes.{Appends};
 ghost use Rattle.std.specs.Prelude.{◌≡◌, length, OnOk, OnErr, IsErrOf, IsOkUnless};
-ghost use Rattle.remap_io.specs.Causes.{held_sum, IsLater};
-ghost use Rattle.remap_io.specs.Host.{with_asked};
+ghost use Rattle.remap_io.specs.Causes.{held_sum};
+ghost use Rattle.remap_io.specs.Host.{with_asked, seen_of_host, seen_of_writer};
+ghost use Rattle.remap_io.specs.Outside.{NoCountFalls, NoPutCountFalls};
 
 use crate::files::{FileErr, Files, PutErr};
 use crate::replacing::replace_file;
@@ -58,8 +59,7 @@ impl<R: std::rt::Files> HostFiles<R> {
         ensures failed { result ≡ FileErr.Failed → self.new ≡
             record self.old { faults = held_sum self.old.faults 1 } }
         ensures not_memory { ¬ (result ≡ FileErr.NoMemory) }
-        ensures later_faults { IsLater self.old.faults self.new.faults }
-        ensures later_misses { IsLater self.old.misses self.new.misses }
+        ensures counts { NoCountFalls (seen_of_host self.old) (seen_of_host self.new) }
     {
         if error.kind() == ErrorKind::NotFound {
             self.misses = self.misses.saturating_add(1);
@@ -79,17 +79,9 @@ fn read_range<R: std::rt::Files>(rt: &R, name: &str, at: u64, buf: &mut [u8]) ->
 }
 
 impl<R: std::rt::Files> Files for HostFiles<R> {
-    ghost use Rattle.std.specs.Prelude.{None};
+    ghost use Rattle.remap_io.specs.Host.{seen_of_host};
 
-    ghost folder = { λ _. None };
-
-    ghost faults = { λ s. s.faults };
-
-    ghost write_faults = { λ s. s.write_faults };
-
-    ghost misses = { λ s. s.misses };
-
-    ghost taken = { λ s. s.taken };
+    ghost seen = { seen_of_host };
 
     fn size(&mut self, name: &str) -> Result<u64, FileErr>
         ensures ok { OnOk result (self.new ≡ self.old) }
@@ -98,8 +90,7 @@ impl<R: std::rt::Files> Files for HostFiles<R> {
         ensures failed { IsErrOf result FileErr.Failed → self.new ≡
             record self.old { faults = held_sum self.old.faults 1 } }
         ensures no_other { ¬ IsErrOf result FileErr.NoMemory }
-        ensures later_faults { IsLater self.old.faults self.new.faults }
-        ensures later_misses { IsLater self.old.misses self.new.misses }
+        ensures counts { NoCountFalls (seen_of_host self.old) (seen_of_host self.new) }
     {
         match self.rt.metadata(name) {
             Ok(metadata) => Ok(metadata.len()),
@@ -114,9 +105,7 @@ impl<R: std::rt::Files> Files for HostFiles<R> {
         ensures failed { IsErrOf result FileErr.Failed → self.new ≡
             record (with_asked self.old (length buf.old)) { faults = held_sum self.old.faults 1 } }
         ensures no_other { ¬ IsErrOf result FileErr.NoMemory }
-        ensures later_faults { IsLater self.old.faults self.new.faults }
-        ensures later_misses { IsLater self.old.misses self.new.misses }
-        ensures later_taken { IsLater self.old.taken self.new.taken }
+        ensures counts { NoCountFalls (seen_of_host self.old) (seen_of_host self.new) }
     {
         self.taken = self.taken.saturating_add(buf.len() as u64);
         match read_range(&self.rt, name, at, buf) {
@@ -130,7 +119,7 @@ impl<R: std::rt::Files> Files for HostFiles<R> {
         ensures failed { OnErr result (self.new ≡
             record self.old { write_faults = held_sum self.old.write_faults 1 }) }
         ensures only_failed { IsOkUnless result PutErr.Failed }
-        ensures later_write_faults { IsLater self.old.write_faults self.new.write_faults }
+        ensures counts { NoCountFalls (seen_of_host self.old) (seen_of_host self.new) }
     {
         match replace_file(&self.rt, name, bytes) {
             Ok(()) => Ok(()),
@@ -178,20 +167,16 @@ fn write_out<W: Write>(writer: &mut W, bytes: &[u8]) -> io::Result<()>
 }
 
 impl<W: Write> Sink for HostSink<W> {
-    ghost use Rattle.std.specs.Prelude.{None};
+    ghost use Rattle.remap_io.specs.Host.{seen_of_writer};
 
-    ghost contents = { λ _. None };
-
-    ghost faults = { λ s. s.faults };
-
-    ghost refusals = { λ _. 0 };
+    ghost seen = { seen_of_writer };
 
     fn put(&mut self, bytes: &[u8]) -> Result<(), PutErr>
         ensures written { OnOk result (Appends self.old.written self.new.written bytes.now) }
         ensures ok { OnOk result (self.new.faults ≡ self.old.faults) }
         ensures failed { OnErr result (self.new.faults ≡ held_sum self.old.faults 1) }
         ensures only_failed { IsOkUnless result PutErr.Failed }
-        ensures later_faults { IsLater self.old.faults self.new.faults }
+        ensures counts { NoPutCountFalls (seen_of_writer self.old) (seen_of_writer self.new) }
     {
         match write_out(&mut self.writer, bytes) {
             Ok(()) => Ok(()),

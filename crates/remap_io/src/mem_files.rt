@@ -1,9 +1,9 @@
 // Files in memory, whose calls of given numbers fail.
 ghost use Rattle.std.specs.Prelude.{◌≡◌, ◌+◌, ◌≤◌, ◌↔◌, length, slice_range, IfSome, IsSomeAnd, IfOk, IsErr, OnOk, OnErr, IsErrOf, IsOkUnless, option_copied};
 ghost use Rattle.std.specs.FinMap as map;
-ghost use Rattle.remap_io.specs.Causes.{IsLater};
 ghost use Rattle.remap_io.specs.Folder.{file_at, with_file};
-ghost use Rattle.remap_io.specs.Memory.{IsToFail, after_call, after_read, with_miss, with_fault, with_folder, with_torn_file};
+ghost use Rattle.remap_io.specs.Outside.{NoCountFalls};
+ghost use Rattle.remap_io.specs.Memory.{seen_of_files, IsToFail, after_call, after_read, with_miss, with_fault, with_folder, with_torn_file};
 
 use crate::files::{FileErr, Files, PutErr};
 use crate::schedule::Schedule;
@@ -119,17 +119,9 @@ impl MemFiles {
 }
 
 impl Files for MemFiles {
-    ghost use Rattle.std.specs.Prelude.{Some};
+    ghost use Rattle.remap_io.specs.Memory.{seen_of_files};
 
-    ghost folder = { λ s. Some s.folder };
-
-    ghost faults = { λ s. s.faults };
-
-    ghost write_faults = { λ s. s.write_faults };
-
-    ghost misses = { λ s. s.misses };
-
-    ghost taken = { λ s. s.taken };
+    ghost seen = { seen_of_files };
 
     fn size(&mut self, name: &str) -> Result<u64, FileErr>
         ensures answer { IfOk result (λ n.
@@ -144,8 +136,7 @@ impl Files for MemFiles {
         ensures failed { IsErrOf result FileErr.Failed →
             self.new ≡ with_fault (after_call self.old) }
         ensures needs_no_memory { ¬ IsErrOf result FileErr.NoMemory }
-        ensures later_faults { IsLater self.old.faults self.new.faults }
-        ensures later_misses { IsLater self.old.misses self.new.misses }
+        ensures counts { NoCountFalls (seen_of_files self.old) (seen_of_files self.new) }
     {
         if self.schedule.next_fails() {
             return Err(self.fault());
@@ -171,9 +162,7 @@ impl Files for MemFiles {
         ensures failed { IsErrOf result FileErr.Failed →
             self.new ≡ with_fault (after_read self.old (length buf.old)) }
         ensures needs_no_memory { ¬ IsErrOf result FileErr.NoMemory }
-        ensures later_faults { IsLater self.old.faults self.new.faults }
-        ensures later_misses { IsLater self.old.misses self.new.misses }
-        ensures later_taken { IsLater self.old.taken self.new.taken }
+        ensures counts { NoCountFalls (seen_of_files self.old) (seen_of_files self.new) }
     {
         self.taken = self.taken.saturating_add(buf.len() as u64);
         if self.schedule.next_fails() {
@@ -200,7 +189,7 @@ impl Files for MemFiles {
         ensures no_memory { IsErrOf result PutErr.NoMemory → self.new ≡ after_call self.old }
         ensures stores_nothing { IsToFail self.old.fail self.old.calls →
             self.old.torn ≡ Torn.Old → result ≡ Err PutErr.Failed }
-        ensures later_write_faults { IsLater self.old.write_faults self.new.write_faults }
+        ensures counts { NoCountFalls (seen_of_files self.old) (seen_of_files self.new) }
     {
         if self.schedule.next_fails() {
             return Err(self.fail_to_replace(name, bytes));
@@ -214,7 +203,7 @@ impl MemFiles {
     fn fault(&mut self) -> FileErr
         ensures fault { result ≡ FileErr.Failed }
         ensures counted { self.new ≡ with_fault self.old }
-        ensures later_faults { IsLater self.old.faults self.new.faults }
+        ensures counts { NoCountFalls (seen_of_files self.old) (seen_of_files self.new) }
     {
         self.faults = self.faults.saturating_add(1);
         FileErr::Failed
@@ -224,7 +213,7 @@ impl MemFiles {
     fn miss(&mut self) -> FileErr
         ensures miss { result ≡ FileErr.Absent }
         ensures counted { self.new ≡ with_miss self.old }
-        ensures later_misses { IsLater self.old.misses self.new.misses }
+        ensures counts { NoCountFalls (seen_of_files self.old) (seen_of_files self.new) }
     {
         self.misses = self.misses.saturating_add(1);
         FileErr::Absent
@@ -236,7 +225,7 @@ impl MemFiles {
             with_torn_file self.old name.now bytes.now }
         ensures no_memory { result ≡ PutErr.NoMemory → self.new ≡ self.old }
         ensures old { self.old.torn ≡ Torn.Old → result ≡ PutErr.Failed }
-        ensures later_write_faults { IsLater self.old.write_faults self.new.write_faults }
+        ensures counts { NoCountFalls (seen_of_files self.old) (seen_of_files self.new) }
     {
         if let Torn::First(n) = self.torn {
             let n = (n as usize).min(bytes.len());

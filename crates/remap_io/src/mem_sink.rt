@@ -1,7 +1,7 @@
 // A sink in memory, whose puts of given numbers fail.
 ghost use Rattle.std.specs.Prelude.{◌≡◌, [], take, IsErr, IsOk, OnOk, OnErr, IsErrOf, IsOkUnless};
-ghost use Rattle.remap_io.specs.Causes.{IsLater};
-ghost use Rattle.remap_io.specs.Memory.{IsToFail, after_put, with_bytes, with_torn_bytes, with_refusal};
+ghost use Rattle.remap_io.specs.Outside.{NoPutCountFalls};
+ghost use Rattle.remap_io.specs.Memory.{seen_of_sink, IsToFail, after_put, with_bytes, with_torn_bytes, with_refusal};
 
 use crate::files::PutErr;
 use crate::schedule::Schedule;
@@ -72,13 +72,9 @@ impl MemSink {
 }
 
 impl Sink for MemSink {
-    ghost use Rattle.std.specs.Prelude.{Some};
+    ghost use Rattle.remap_io.specs.Memory.{seen_of_sink};
 
-    ghost contents = { λ s. Some s.bytes };
-
-    ghost faults = { λ s. s.faults };
-
-    ghost refusals = { λ s. s.refusals };
+    ghost seen = { seen_of_sink };
 
     fn put(&mut self, bytes: &[u8]) -> Result<(), PutErr>
         ensures ok { OnOk result (self.new ≡ with_bytes (after_put self.old) bytes.now) }
@@ -91,8 +87,7 @@ impl Sink for MemSink {
             self.new ≡ with_refusal (after_put self.old) }
         ensures stores_nothing { IsToFail self.old.fail self.old.calls →
             take self.old.torn bytes.now ≡ [] → result ≡ Err PutErr.Failed }
-        ensures later_faults { IsLater self.old.faults self.new.faults }
-        ensures later_refusals { IsLater self.old.refusals self.new.refusals }
+        ensures counts { NoPutCountFalls (seen_of_sink self.old) (seen_of_sink self.new) }
     {
         if self.schedule.next_fails() {
             return Err(self.fail_to_put(bytes));
@@ -108,7 +103,7 @@ impl MemSink {
         ensures err { OnErr result (self.new ≡ with_refusal self.old) }
         ensures no_other { IsOkUnless result PutErr.NoMemory }
         ensures nothing { bytes.now ≡ [] → IsOk result }
-        ensures later_refusals { IsLater self.old.refusals self.new.refusals }
+        ensures counts { NoPutCountFalls (seen_of_sink self.old) (seen_of_sink self.new) }
     {
         if bytes.is_empty() || self.held.extend_from_slice(bytes).is_ok() {
             return Ok(());
@@ -122,8 +117,7 @@ impl MemSink {
         ensures failed { result ≡ PutErr.Failed → self.new ≡ with_torn_bytes self.old bytes.now }
         ensures no_memory { result ≡ PutErr.NoMemory → self.new ≡ with_refusal self.old }
         ensures nothing { take self.old.torn bytes.now ≡ [] → result ≡ PutErr.Failed }
-        ensures later_faults { IsLater self.old.faults self.new.faults }
-        ensures later_refusals { IsLater self.old.refusals self.new.refusals }
+        ensures counts { NoPutCountFalls (seen_of_sink self.old) (seen_of_sink self.new) }
     {
         let kept = (self.torn as usize).min(bytes.len());
         match self.append(&bytes[..kept]) {

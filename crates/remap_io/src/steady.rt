@@ -1,8 +1,10 @@
 // Files and a sink in memory that never fail for another cause than memory.
 ghost use Rattle.std.specs.Prelude.{◌≡◌, ◌+◌, ◌≤◌, ◌++◌, [], length, slice_range, IfSome, IsSomeAnd, IfOk, OnOk, OnErr, IsOkUnless, option_copied};
 ghost use Rattle.std.specs.FinMap as map;
-ghost use Rattle.remap_io.specs.Causes.{held_sum, IsLater};
+ghost use Rattle.remap_io.specs.Causes.{held_sum};
 ghost use Rattle.remap_io.specs.Folder.{file_at, with_file};
+ghost use Rattle.remap_io.specs.Memory.{seen_of_steady_files, seen_of_steady_sink};
+ghost use Rattle.remap_io.specs.Outside.{NoCountFalls, NoPutCountFalls};
 
 use crate::files::{FileErr, Files, PutErr};
 use crate::sink::Sink;
@@ -65,17 +67,9 @@ impl SteadyFiles {
 }
 
 impl Files for SteadyFiles {
-    ghost use Rattle.std.specs.Prelude.{Some};
+    ghost use Rattle.remap_io.specs.Memory.{seen_of_steady_files};
 
-    ghost folder = { λ s. Some s.folder };
-
-    ghost faults = { λ _. 0 };
-
-    ghost write_faults = { λ _. 0 };
-
-    ghost misses = { λ s. s.misses };
-
-    ghost taken = { λ s. s.taken };
+    ghost seen = { seen_of_steady_files };
 
     fn size(&mut self, name: &str) -> Result<u64, FileErr>
         ensures answer { IfOk result (λ n. IsSomeAnd (file_at self.old.folder name.now) (λ bytes.
@@ -85,7 +79,7 @@ impl Files for SteadyFiles {
         ensures absent { OnErr result (self.new ≡
             record self.old { misses = held_sum self.old.misses 1 }) }
         ensures only_absent { IsOkUnless result FileErr.Absent }
-        ensures later_misses { IsLater self.old.misses self.new.misses }
+        ensures counts { NoCountFalls (seen_of_steady_files self.old) (seen_of_steady_files self.new) }
     {
         match store::bytes_of(&self.files, name) {
             Some(bytes) => Ok(bytes.len() as u64),
@@ -110,8 +104,7 @@ impl Files for SteadyFiles {
               misses = held_sum self.old.misses 1;
             }) }
         ensures only_absent { IsOkUnless result FileErr.Absent }
-        ensures later_misses { IsLater self.old.misses self.new.misses }
-        ensures later_taken { IsLater self.old.taken self.new.taken }
+        ensures counts { NoCountFalls (seen_of_steady_files self.old) (seen_of_steady_files self.new) }
     {
         self.taken = self.taken.saturating_add(buf.len() as u64);
         match store::bytes_of(&self.files, name) {
@@ -175,13 +168,9 @@ impl SteadySink {
 }
 
 impl Sink for SteadySink {
-    ghost use Rattle.std.specs.Prelude.{Some};
+    ghost use Rattle.remap_io.specs.Memory.{seen_of_steady_sink};
 
-    ghost contents = { λ s. Some s.bytes };
-
-    ghost faults = { λ _. 0 };
-
-    ghost refusals = { λ s. s.refusals };
+    ghost seen = { seen_of_steady_sink };
 
     fn put(&mut self, bytes: &[u8]) -> Result<(), PutErr>
         ensures ok { OnOk result (self.new ≡
@@ -189,7 +178,7 @@ impl Sink for SteadySink {
         ensures err { OnErr result (self.new ≡
             record self.old { refusals = held_sum self.old.refusals 1 }) }
         ensures never_failed { IsOkUnless result PutErr.NoMemory }
-        ensures later_refusals { IsLater self.old.refusals self.new.refusals }
+        ensures counts { NoPutCountFalls (seen_of_steady_sink self.old) (seen_of_steady_sink self.new) }
     {
         match self.held.extend_from_slice(bytes) {
             Ok(()) => Ok(()),

@@ -10,9 +10,10 @@ use Rattle.nc_format.proofs.Lawful.{ok_is}
 use Rattle.remap_load.specs.declared.Head.{Head}
 use Rattle.remap_load.specs.declared.fault.LoadFault.{LoadFault}
 use Rattle.remap_load.specs.declared.fault.LoadFault.TheVariants.{Absent, Failed, TooLong, Format, NoMemory}
-use Rattle.remap_load.specs.Frame.{OnFile, OnNoFile, Holds, Lacks}
+use Rattle.remap_io.specs.Folder.{OnFile, OnNoFile, Holds, Lacks}
 use Rattle.remap_load.specs.Heads.{IsHead, IsHeadOfBytes, IsGrown, header_cost}
-use Rattle.remap_load.specs.Faults.{IsFaultOf, Refuses, Finds}
+use Rattle.remap_io.specs.Outside.{FilesSeen}
+use Rattle.remap_load.specs.Loading.{IsLoadFault, Refuses, Finds}
 use Rattle.remap_load.proofs.Fronts.{front_split, header_longer}
 
 lacks_some : (o : Option (List ℕ)) (P : List ℕ → Type 0) → o ≡ None → IsSomeAnd o P → ⊥
@@ -45,55 +46,55 @@ no_fault e h = absurd cc
 one_fault : (o : Option NcFault) (e f : NcFault) → o ≡ Some e → o ≡ Some f → e ≡ f
 one_fault o e f h k = cc
 
-pub refuses_absent : (folder : Option Folder) (name : List ℕ) (r : Result Head LoadFault) → IfOk r (λ head. OnFile folder name (IsHeadOfBytes head)) → IfErr r (IsFaultOf folder name) → Lacks folder name → Refuses Absent r
-refuses_absent folder name (Ok head) of_file fault lacks = absurd (lacks_on folder name (IsHeadOfBytes head) lacks of_file)
-refuses_absent folder name (Err Absent) of_file fault lacks = inl refl
-refuses_absent folder name (Err Failed) of_file fault lacks = inr (inl refl)
-refuses_absent folder name (Err (TooLong n)) of_file fault lacks = absurd (lacks_on folder name (λ bytes. n ≡ length bytes) lacks fault.1)
-refuses_absent folder name (Err (Format e)) of_file fault lacks = absurd (lacks_on folder name (λ bytes. (length bytes ≤ 2147483647) × (first_fault bytes (length bytes) ≡ Some e)) lacks fault.1)
-refuses_absent folder name (Err NoMemory) of_file fault lacks = inr (inr refl)
+pub refuses_absent : (old new : FilesSeen) (name : List ℕ) (r : Result Head LoadFault) → IfOk r (λ head. OnFile old.folder name (IsHeadOfBytes head)) → IfErr r (IsLoadFault old new name) → Lacks old.folder name → Refuses Absent r
+refuses_absent old new name (Ok head) of_file fault lacks = absurd (lacks_on old.folder name (IsHeadOfBytes head) lacks of_file)
+refuses_absent old new name (Err Absent) of_file fault lacks = inl refl
+refuses_absent old new name (Err Failed) of_file fault lacks = inr (inl refl)
+refuses_absent old new name (Err (TooLong n)) of_file fault lacks = absurd (lacks_on old.folder name (λ bytes. n ≡ length bytes) lacks fault.1)
+refuses_absent old new name (Err (Format e)) of_file fault lacks = absurd (lacks_on old.folder name (λ bytes. (length bytes ≤ 2147483647) × (first_fault bytes (length bytes) ≡ Some e)) lacks fault.1)
+refuses_absent old new name (Err NoMemory) of_file fault lacks = inr (inr refl)
 
-pub refuses_long : (folder : Option Folder) (name bytes : List ℕ) (r : Result Head LoadFault) → IfOk r IsHead → IfOk r (λ head. OnFile folder name (IsHeadOfBytes head)) → IfErr r (IsFaultOf folder name) → Holds folder name bytes → 2147483647 < length bytes → Refuses (TooLong (length bytes)) r
-refuses_long folder name bytes (Ok head) is of_file fault holds long =
-    let here = holds_on folder name bytes (IsHeadOfBytes head) holds of_file in
+pub refuses_long : (old new : FilesSeen) (name bytes : List ℕ) (r : Result Head LoadFault) → IfOk r IsHead → IfOk r (λ head. OnFile old.folder name (IsHeadOfBytes head)) → IfErr r (IsLoadFault old new name) → Holds old.folder name bytes → 2147483647 < length bytes → Refuses (TooLong (length bytes)) r
+refuses_long old new name bytes (Ok head) is of_file fault holds long =
+    let here = holds_on old.folder name bytes (IsHeadOfBytes head) holds of_file in
     absurd (omega (arith, here.len, is.short))
-refuses_long folder name bytes (Err Absent) is of_file fault holds long = absurd (holds_no_file folder name bytes holds fault)
-refuses_long folder name bytes (Err Failed) is of_file fault holds long = inr (inl refl)
-refuses_long folder name bytes (Err (TooLong n)) is of_file fault holds long =
-    let same : n ≡ length bytes = holds_on folder name bytes (λ all. n ≡ length all) holds fault.1 in
+refuses_long old new name bytes (Err Absent) is of_file fault holds long = absurd (holds_no_file old.folder name bytes holds fault.1)
+refuses_long old new name bytes (Err Failed) is of_file fault holds long = inr (inl refl)
+refuses_long old new name bytes (Err (TooLong n)) is of_file fault holds long =
+    let same : n ≡ length bytes = holds_on old.folder name bytes (λ all. n ≡ length all) holds fault.1 in
     inl (ap (λ (k : ℕ). Err (TooLong k)) same)
-refuses_long folder name bytes (Err (Format e)) is of_file fault holds long =
-    let here = holds_on folder name bytes (λ all. (length all ≤ 2147483647) × (first_fault all (length all) ≡ Some e)) holds fault.1 in
+refuses_long old new name bytes (Err (Format e)) is of_file fault holds long =
+    let here = holds_on old.folder name bytes (λ all. (length all ≤ 2147483647) × (first_fault all (length all) ≡ Some e)) holds fault.1 in
     absurd (omega (arith, here.0))
-refuses_long folder name bytes (Err NoMemory) is of_file fault holds long = inr (inr refl)
+refuses_long old new name bytes (Err NoMemory) is of_file fault holds long = inr (inr refl)
 
-pub refuses_format : (folder : Option Folder) (name bytes : List ℕ) (e : NcFault) (r : Result Head LoadFault) → IfOk r (λ head. OnFile folder name (IsHeadOfBytes head)) → IfErr r (IsFaultOf folder name) → Holds folder name bytes → length bytes ≤ 2147483647 → first_fault bytes (length bytes) ≡ Some e → Refuses (Format e) r
-refuses_format folder name bytes e (Ok head) of_file fault holds short is =
-    let here = holds_on folder name bytes (IsHeadOfBytes head) holds of_file in
+pub refuses_format : (old new : FilesSeen) (name bytes : List ℕ) (e : NcFault) (r : Result Head LoadFault) → IfOk r (λ head. OnFile old.folder name (IsHeadOfBytes head)) → IfErr r (IsLoadFault old new name) → Holds old.folder name bytes → length bytes ≤ 2147483647 → first_fault bytes (length bytes) ≡ Some e → Refuses (Format e) r
+refuses_format old new name bytes e (Ok head) of_file fault holds short is =
+    let here = holds_on old.folder name bytes (IsHeadOfBytes head) holds of_file in
     absurd (no_fault e (sym (no_fault_is bytes (length bytes) head.file here.header) ∙ is))
-refuses_format folder name bytes e (Err Absent) of_file fault holds short is = absurd (holds_no_file folder name bytes holds fault)
-refuses_format folder name bytes e (Err Failed) of_file fault holds short is = inr (inl refl)
-refuses_format folder name bytes e (Err (TooLong n)) of_file fault holds short is =
-    let same : n ≡ length bytes = holds_on folder name bytes (λ all. n ≡ length all) holds fault.1 in
+refuses_format old new name bytes e (Err Absent) of_file fault holds short is = absurd (holds_no_file old.folder name bytes holds fault.1)
+refuses_format old new name bytes e (Err Failed) of_file fault holds short is = inr (inl refl)
+refuses_format old new name bytes e (Err (TooLong n)) of_file fault holds short is =
+    let same : n ≡ length bytes = holds_on old.folder name bytes (λ all. n ≡ length all) holds fault.1 in
     absurd (omega (arith, fault.0, same))
-refuses_format folder name bytes e (Err (Format f)) of_file fault holds short is =
-    let here = holds_on folder name bytes (λ all. (length all ≤ 2147483647) × (first_fault all (length all) ≡ Some f)) holds fault.1 in
+refuses_format old new name bytes e (Err (Format f)) of_file fault holds short is =
+    let here = holds_on old.folder name bytes (λ all. (length all ≤ 2147483647) × (first_fault all (length all) ≡ Some f)) holds fault.1 in
     inl (ap (λ (x : NcFault). Err (Format x)) (one_fault (first_fault bytes (length bytes)) f e here.1 is))
-refuses_format folder name bytes e (Err NoMemory) of_file fault holds short is = inr (inr refl)
+refuses_format old new name bytes e (Err NoMemory) of_file fault holds short is = inr (inr refl)
 
-pub finds_header : (folder : Option Folder) (name bytes : List ℕ) (f : NcFile) (r : Result Head LoadFault) → IfOk r (λ head. OnFile folder name (IsHeadOfBytes head)) → IfErr r (IsFaultOf folder name) → Holds folder name bytes → length bytes ≤ 2147483647 → IsHeader bytes (length bytes) f → Finds f r
-finds_header folder name bytes f (Ok head) of_file fault holds short is =
-    let here = holds_on folder name bytes (IsHeadOfBytes head) holds of_file in
+pub finds_header : (old new : FilesSeen) (name bytes : List ℕ) (f : NcFile) (r : Result Head LoadFault) → IfOk r (λ head. OnFile old.folder name (IsHeadOfBytes head)) → IfErr r (IsLoadFault old new name) → Holds old.folder name bytes → length bytes ≤ 2147483647 → IsHeader bytes (length bytes) f → Finds f r
+finds_header old new name bytes f (Ok head) of_file fault holds short is =
+    let here = holds_on old.folder name bytes (IsHeadOfBytes head) holds of_file in
     inl (one_header bytes (length bytes) head.file f here.header is)
-finds_header folder name bytes f (Err Absent) of_file fault holds short is = absurd (holds_no_file folder name bytes holds fault)
-finds_header folder name bytes f (Err Failed) of_file fault holds short is = inr (inl refl)
-finds_header folder name bytes f (Err (TooLong n)) of_file fault holds short is =
-    let same : n ≡ length bytes = holds_on folder name bytes (λ all. n ≡ length all) holds fault.1 in
+finds_header old new name bytes f (Err Absent) of_file fault holds short is = absurd (holds_no_file old.folder name bytes holds fault.1)
+finds_header old new name bytes f (Err Failed) of_file fault holds short is = inr (inl refl)
+finds_header old new name bytes f (Err (TooLong n)) of_file fault holds short is =
+    let same : n ≡ length bytes = holds_on old.folder name bytes (λ all. n ≡ length all) holds fault.1 in
     absurd (omega (arith, fault.0, same))
-finds_header folder name bytes f (Err (Format e)) of_file fault holds short is =
-    let here = holds_on folder name bytes (λ all. (length all ≤ 2147483647) × (first_fault all (length all) ≡ Some e)) holds fault.1 in
+finds_header old new name bytes f (Err (Format e)) of_file fault holds short is =
+    let here = holds_on old.folder name bytes (λ all. (length all ≤ 2147483647) × (first_fault all (length all) ≡ Some e)) holds fault.1 in
     absurd (no_fault e (sym (no_fault_is bytes (length bytes) f is) ∙ here.1))
-finds_header folder name bytes f (Err NoMemory) of_file fault holds short is = inr (inr refl)
+finds_header old new name bytes f (Err NoMemory) of_file fault holds short is = inr (inr refl)
 
 -- How many bytes were asked for.
 

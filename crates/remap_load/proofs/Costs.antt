@@ -1,5 +1,8 @@
 -- How many bytes are read for pieces, and how many values a variable has.
-use Rattle.std.proofs.Common.{◌≡◌, ℕ, zero, suc, ◌+◌, ◌-◌, ◌*◌, ◌/◌, ◌%◌, ◌≤◌, Bool, true, false, if◌then◌else◌, List, [], ◌∷◌, All, length, drop, refl, sym, ap, ◌∙◌, arith, add-one, nat_le, Option, Some, None, slice_get, IsSomeAnd, subst}
+use Rattle.std.proofs.Common.{◌≡◌, ℕ, zero, suc, ◌+◌, ◌-◌, ◌*◌, ◌/◌, ◌%◌, ◌≤◌, Bool, true, false, if◌then◌else◌, List, [], ◌∷◌, All, length, drop, refl, sym, ap, ◌∙◌, arith, add-one, nat_le, Option, Some, None, slice_get, IsSomeAnd, subst, ℤ, ◌<◌, ◌++◌, map, take, get_or}
+use Rattle.std.specs.List.{sum_by}
+use Rattle.std.proofs.lemmas.List.{take_more, take-append-drop, map-append}
+use Rattle.std.proofs.lemmas.List.Sums.{sum_by-cons, sum_by-append}
 use Rattle.std.specs.Prelude.{IsSome}
 use Rattle.std.proofs.Math.Nat.{suc-mul, zero-mod}
 use Rattle.std.proofs.lemmas.Nat.{mul-mod_first}
@@ -8,7 +11,10 @@ use Rattle.std.proofs.lemmas.List.FromFn.{length-map-range_with_len}
 use Rattle.nc_write.specs.Kinds.{size_of}
 use Rattle.nc_format.specs.declared.NcVar.{NcVar}
 use Rattle.nc_format.specs.Numbers.{number_in, numbers_in}
-use Rattle.remap_load.specs.Pieces.{value_count, piece_cost, pieces_cost}
+use Rattle.nc_format.specs.declared.NcFile.{NcFile}
+use Rattle.nc_format.specs.Numbers.{gathered}
+use Rattle.remap_io.specs.Folder.{Folder, OnFile}
+use Rattle.remap_load.specs.Pieces.{value_count, piece_cost, pieces_cost, numbers_of, numbers_at, count_of, count_at, var_bytes, bytes_at}
 
 pub cost_more : (have : ℕ) (v : NcVar) (n : ℕ) → pieces_cost have v (n + 1) ≡ pieces_cost have v n + piece_cost have v n
 unfolding pieces_cost
@@ -66,3 +72,28 @@ at_place P (w ∷ ws) (suc k) v all h = at_place P ws k v (All-tail P w ws all) 
 
 pub one_there : (o : Option NcVar) (v w : NcVar) → o ≡ Some v → o ≡ Some w → v ≡ w
 one_there o v w h k = cc
+
+-- The same of the variable at a place.
+
+pub numbers_there : (file : NcFile) (place : ℕ) (v : NcVar) (numbers : List ℤ) (folder : Option Folder) (name : List ℕ) → slice_get file.vars place ≡ Some v → OnFile folder name (λ bytes. numbers ≡ numbers_in v.kind (gathered v bytes)) → OnFile folder name (λ bytes. numbers ≡ numbers_at file bytes place)
+numbers_there file place v numbers folder name there h = subst (λ (o : Option NcVar). OnFile folder name (λ bytes. numbers ≡ numbers_of bytes o)) (sym there) h
+
+pub count_there : (file : NcFile) (place : ℕ) (v : NcVar) → slice_get file.vars place ≡ Some v → value_count v ≡ count_at file place
+count_there file place v there = ap count_of (sym there)
+
+pub bytes_there : (file : NcFile) (place : ℕ) (v : NcVar) → slice_get file.vars place ≡ Some v → v.parts * v.part ≡ bytes_at file place
+bytes_there file place v there = ap var_bytes (sym there)
+
+-- one more place
+pub map_more : {A : Type 0} (f : ℕ → A) (places : List ℕ) (i : ℕ) → i < length places → map f (take (i + 1) places) ≡ map f (take i places) ++ f (get_or places i 0) ∷ []
+map_more f places i lt = ap (map f) (take_more places i 0 lt) ∙ map-append f (take i places) (get_or places i 0 ∷ [])
+
+pub sum_more : (f : ℕ → ℕ) (places : List ℕ) (i : ℕ) → i < length places → sum_by f (take (i + 1) places) ≡ sum_by f (take i places) + f (get_or places i 0)
+sum_more f places i lt =
+    let one : sum_by f (get_or places i 0 ∷ []) ≡ f (get_or places i 0) = sum_by-cons f (get_or places i 0) [] ∙ omega arith in
+    ap (sum_by f) (take_more places i 0 lt) ∙ sum_by-append f (take i places) (get_or places i 0 ∷ []) ∙ ap (λ n. sum_by f (take i places) + n) one
+
+-- the first of some places ask for no more than all of them
+pub sum_first : (f : ℕ → ℕ) (places : List ℕ) (i : ℕ) → sum_by f (take i places) ≤ sum_by f places
+sum_first f places i =
+    omega (arith, sum_by-append f (take i places) (drop i places), ap (sum_by f) (take-append-drop i places))

@@ -1,7 +1,6 @@
 -- The first bytes of a file, and the header that they begin with.
-use Rattle.std.proofs.Common.{◌≡◌, ◌⊎◌, inl, inr, ℕ, ◌+◌, ◌-◌, ◌<◌, ◌≤◌, List, ◌++◌, length, take, drop, slice_range, Option, Some, None, IsSomeAnd, Result, Ok, Err, IsErrAnd, sym, ap, ap₂, subst, ◌∙◌, arith}
+use Rattle.std.proofs.Common.{◌≡◌, ◌⊎◌, inl, inr, ℕ, ◌+◌, ◌-◌, ◌<◌, ◌≤◌, List, ◌++◌, length, take, drop, slice_range, Option, Some, None, IsSomeAnd, sym, ap, ap₂, subst, ◌∙◌, arith}
 use Rattle.std.proofs.lemmas.List.{take-append-drop, take_all}
-use Rattle.std.specs.Prelude.{IfErr}
 use Rattle.std.proofs.lemmas.Bool.{cases_lt}
 use Rattle.std.proofs.Math.Seq.{take-append-add}
 use Rattle.remap_io.specs.Folder.{Folder, file_at}
@@ -14,9 +13,10 @@ use Rattle.nc_format.proofs.Prefix.{prefix_header, prefix_fault}
 use Rattle.remap_load.specs.declared.Head.{Head}
 use Rattle.remap_load.specs.declared.fault.LoadFault.{LoadFault}
 use Rattle.remap_load.specs.declared.fault.LoadFault.TheVariants.{Absent, Failed, TooLong, Format, NoMemory}
-use Rattle.remap_load.specs.Frame.{OnFile}
+use Rattle.remap_io.specs.Folder.{OnFile}
 use Rattle.remap_load.specs.Heads.{IsHead, IsHeadOfBytes, IsFront, IsCut, IsGrown}
-use Rattle.remap_load.specs.Faults.{IsFaultOf, IsOfFront}
+use Rattle.remap_io.specs.Outside.{FilesSeen}
+use Rattle.remap_load.specs.Loading.{IsLoadFault, IsOfFront}
 
 -- what is said of the bytes of a told file
 on_bytes : (o : Option (List ℕ)) (P Q R : List ℕ → Type 0) → ((bytes : List ℕ) → P bytes → Q bytes → R bytes) → IsSomeAnd o P → IsSomeAnd o Q → IsSomeAnd o R
@@ -88,15 +88,10 @@ fault_of_bytes front len bytes fault h many settled is =
       | inr all ↦ ap (λ (s : List ℕ). first_fault s len) (sym (whole_front front len bytes h all)) ∙ is
     ])
 
-pub fault_of_front : (folder : Option Folder) (name : List ℕ) (front : List ℕ) (len : ℕ) (fault : LoadFault) → len ≤ 2147483647 → (length front < len → 65536 ≤ length front) → OnFile folder name (IsFront front len) → IsOfFront front len fault → IsFaultOf folder name fault
-fault_of_front folder name front len Absent short many h is = absurd is
-fault_of_front folder name front len Failed short many h is = absurd is
-fault_of_front folder name front len (TooLong n) short many h is = absurd is
-fault_of_front folder name front len (Format fault) short many h is =
-    (is.0, on_this_file folder name (IsFront front len) (λ bytes. (length bytes ≤ 2147483647) × (first_fault bytes (length bytes) ≡ Some fault)) (λ bytes k. (omega (arith, k.whole_len), fault_of_bytes front len bytes fault k many is.2 is.1)) h)
-fault_of_front folder name front len NoMemory short many h is = tt
-
--- a fault that was handed on
-pub handed_on : {A : Type 0} (P : LoadFault → Type 0) (r : Result A LoadFault) (fault : LoadFault) → IsErrAnd r (λ e. e ≡ fault) → P fault → IfErr r P
-handed_on P (Ok x) fault h p = tt
-handed_on P (Err e) fault h p = subst P (sym h) p
+pub fault_of_front : (old new : FilesSeen) (name : List ℕ) (front : List ℕ) (len : ℕ) (fault : LoadFault) → len ≤ 2147483647 → (length front < len → 65536 ≤ length front) → OnFile old.folder name (IsFront front len) → IsOfFront front len fault → IsLoadFault old new name fault
+fault_of_front old new name front len Absent short many h is = absurd is
+fault_of_front old new name front len Failed short many h is = absurd is
+fault_of_front old new name front len (TooLong n) short many h is = absurd is
+fault_of_front old new name front len (Format fault) short many h is =
+    (is.0, on_this_file old.folder name (IsFront front len) (λ bytes. (length bytes ≤ 2147483647) × (first_fault bytes (length bytes) ≡ Some fault)) (λ bytes k. (omega (arith, k.whole_len), fault_of_bytes front len bytes fault k many is.2 is.1)) h)
+fault_of_front old new name front len NoMemory short many h is = tt

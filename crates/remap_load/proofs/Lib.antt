@@ -1,3 +1,5 @@
 pub mod Answered
+pub mod Contents
 pub mod Costs
 pub mod Fronts
+pub mod Reading

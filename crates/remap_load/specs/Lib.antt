@@ -1,4 +1,4 @@
-pub mod Faults
-pub mod Frame
 pub mod Heads
+pub mod Kinds
+pub mod Loading
 pub mod Pieces

@@ -1,7 +1,9 @@
--- The pieces of a variable, of which some stand in the first bytes of a file. Source: our own.
-use Rattle.std.specs.Prelude.{ℕ, zero, suc, ◌+◌, ◌*◌, ◌/◌, nat_le, if◌then◌else◌}
+-- The values of the variables of a file, and how many bytes are read for them. Source: our own.
+use Rattle.std.specs.Prelude.{ℕ, ℤ, zero, suc, ◌+◌, ◌*◌, ◌/◌, nat_le, if◌then◌else◌, List, [], Option, Some, None, slice_get}
 use Rattle.nc_write.specs.Kinds.{size_of}
+use Rattle.nc_format.specs.declared.NcFile.{NcFile}
 use Rattle.nc_format.specs.declared.NcVar.{NcVar}
+use Rattle.nc_format.specs.Numbers.{numbers_in, gathered}
 
 -- how many values a variable has
 abbrev pub value_count : NcVar → ℕ
@@ -19,3 +21,29 @@ pieces_cost have v (suc n) = pieces_cost have v n + piece_cost have v n
 -- how many bytes are read for the values of a variable
 abbrev pub values_cost : ℕ → NcVar → ℕ
 values_cost have v = pieces_cost have v v.parts
+
+-- the values of a variable of a file with these bytes
+abbrev pub numbers_of : List ℕ → Option NcVar → List ℤ
+numbers_of bytes None = []
+numbers_of bytes (Some v) = numbers_in v.kind (gathered v bytes)
+
+-- those of the variable at a place, from 0
+abbrev pub numbers_at : NcFile → List ℕ → ℕ → List ℤ
+numbers_at file bytes place = numbers_of bytes (slice_get file.vars place)
+
+-- how many they are
+abbrev pub count_of : Option NcVar → ℕ
+count_of None = 0
+count_of (Some v) = value_count v
+
+abbrev pub count_at : NcFile → ℕ → ℕ
+count_at file place = count_of (slice_get file.vars place)
+
+-- the bytes of all pieces of a variable
+abbrev pub var_bytes : Option NcVar → ℕ
+var_bytes None = 0
+var_bytes (Some v) = v.parts * v.part
+
+-- those of the variable at a place, from 0
+abbrev pub bytes_at : NcFile → ℕ → ℕ
+bytes_at file place = var_bytes (slice_get file.vars place)

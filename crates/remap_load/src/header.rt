@@ -1,12 +1,12 @@
 // The header of a file, from as few of its first bytes as have it.
-ghost use Rattle.std.specs.Prelude.{◌≡◌, ◌⊎◌, ◌≤◌, ◌<◌, ◌+◌, ◌*◌, ℕ, List, length, min, IfSome, IfOk, IfErr, OnOk, IsErrOf, Ok, None, Some};
-ghost use Rattle.remap_io.specs.Causes.{Rose};
+ghost use Rattle.std.specs.Prelude.{◌≡◌, ◌≤◌, ◌<◌, ◌+◌, ℕ, List, length, min, IfSome, IfOk, IfErr, Ok, None, Some};
+ghost use Rattle.remap_io.specs.Folder.{OnFile, Holds, Lacks};
+ghost use Rattle.remap_io.specs.Outside.{OnlyReads};
 ghost use Rattle.nc_format.specs.declared.fault.NcFault.{NcFault};
 ghost use Rattle.nc_format.specs.declared.NcFile.{NcFile};
 ghost use Rattle.nc_format.specs.Header.{IsHeader, first_fault};
-ghost use Rattle.remap_load.specs.Frame.{OnlyReads, OnFile, Holds, Lacks};
 ghost use Rattle.remap_load.specs.Heads.{IsHead, IsHeadOfBytes, header_cost, IsFront, IsCut, IsGrown};
-ghost use Rattle.remap_load.specs.Faults.{IsFaultOf, IsOfFront, Refuses, Finds};
+ghost use Rattle.remap_load.specs.Loading.{IsLoadFault, IsOfFront, Refuses, Finds};
 
 use crate::reads::{length_of, read_behind};
 use crate::{Head, LoadFault};
@@ -50,15 +50,15 @@ fn load_from<F: Files>(
 ) -> Result<Head, LoadFault>
     requires short { len ≤ 2147483647 }
     requires first { length front.items ≡ min len 65536 }
-    requires front { OnFile (F.folder files.old) name.now (IsFront front.items len) }
+    requires front { OnFile (F.seen files.old).folder name.now (IsFront front.items len) }
     ensures head { IfOk result IsHead }
-    ensures of_file { IfOk result (λ head. OnFile (F.folder files.old) name.now (IsHeadOfBytes head)) }
+    ensures of_file { IfOk result (λ head.
+        OnFile (F.seen files.old).folder name.now (IsHeadOfBytes head)) }
     ensures grown { IfOk result (λ head. IsGrown head.prefix head.len) }
-    ensures absent { IsErrOf result LoadFault.Absent → Rose (F.misses files.old) (F.misses files.new) }
-    ensures failed { IsErrOf result LoadFault.Failed → Rose (F.faults files.old) (F.faults files.new) }
-    ensures fault { IfErr result (IsFaultOf (F.folder files.old) name.now) }
-    ensures reads { OnlyReads F.folder F.faults F.write_faults F.misses F.taken files.old files.new }
-    ensures taken { IfOk result (λ head. F.taken files.new + length front.items ≤ F.taken files.old + length head.prefix) }
+    ensures fault { IfErr result (IsLoadFault (F.seen files.old) (F.seen files.new) name.now) }
+    ensures reads { OnlyReads (F.seen files.old) (F.seen files.new) }
+    ensures asked { IfOk result (λ head. (F.seen files.new).taken + length front.items
+        ≤ (F.seen files.old).taken + length head.prefix) }
 {
     let mut front = front;
     'growing: loop {
@@ -75,13 +75,13 @@ fn load_from<F: Files>(
 // The head of a file, by what is proved on the way.
 fn load_head<F: Files>(alloc: Global, files: &mut F, name: &str) -> Result<Head, LoadFault>
     ensures head { IfOk result IsHead }
-    ensures of_file { IfOk result (λ head. OnFile (F.folder files.old) name.now (IsHeadOfBytes head)) }
+    ensures of_file { IfOk result (λ head.
+        OnFile (F.seen files.old).folder name.now (IsHeadOfBytes head)) }
     ensures grown { IfOk result (λ head. IsGrown head.prefix head.len) }
-    ensures absent { IsErrOf result LoadFault.Absent → Rose (F.misses files.old) (F.misses files.new) }
-    ensures failed { IsErrOf result LoadFault.Failed → Rose (F.faults files.old) (F.faults files.new) }
-    ensures fault { IfErr result (IsFaultOf (F.folder files.old) name.now) }
-    ensures reads { OnlyReads F.folder F.faults F.write_faults F.misses F.taken files.old files.new }
-    ensures taken { IfOk result (λ head. F.taken files.new ≤ F.taken files.old + length head.prefix) }
+    ensures fault { IfErr result (IsLoadFault (F.seen files.old) (F.seen files.new) name.now) }
+    ensures reads { OnlyReads (F.seen files.old) (F.seen files.new) }
+    ensures asked { IfOk result (λ head.
+        (F.seen files.new).taken ≤ (F.seen files.old).taken + length head.prefix) }
 {
     let len = length_of(files, name)?;
     let mut front = Vec::new(alloc);
@@ -98,26 +98,33 @@ fn load_head<F: Files>(alloc: Global, files: &mut F, name: &str) -> Result<Head,
 pub fn load_header<F: Files>(alloc: Global, files: &mut F, name: &str) -> Result<Head, LoadFault>
     // What is answered is a head, and that of the file, where the folder is told.
     ensures head { IfOk result IsHead }
-    ensures of_file { IfOk result (λ head. OnFile (F.folder files.old) name.now (IsHeadOfBytes head)) }
+    ensures of_file { IfOk result (λ head.
+        OnFile (F.seen files.old).folder name.now (IsHeadOfBytes head)) }
 
-    // A miss or a failed read is counted; any other fault stands in the file, where the folder is told.
-    ensures absent { IsErrOf result LoadFault.Absent → Rose (F.misses files.old) (F.misses files.new) }
-    ensures failed { IsErrOf result LoadFault.Failed → Rose (F.faults files.old) (F.faults files.new) }
-    ensures fault { IfErr result (IsFaultOf (F.folder files.old) name.now) }
+    // A miss or a failed read is counted; any other fault stands in the file, where the folder is
+    // told.
+    ensures fault { IfErr result (IsLoadFault (F.seen files.old) (F.seen files.new) name.now) }
 
     // What stands in a told folder is answered, unless a read fails or memory runs out.
-    ensures lacking { Lacks (F.folder files.old) name.now → Refuses LoadFault.Absent result }
-    ensures long { (bytes : List ℕ) → Holds (F.folder files.old) name.now bytes → 2147483647 < length bytes → Refuses (LoadFault.TooLong (length bytes)) result }
-    ensures faulty { (bytes : List ℕ) (e : NcFault) → Holds (F.folder files.old) name.now bytes → length bytes ≤ 2147483647
+    ensures lacking { Lacks (F.seen files.old).folder name.now
+        → Refuses LoadFault.Absent result }
+    ensures long { (bytes : List ℕ) → Holds (F.seen files.old).folder name.now bytes
+        → 2147483647 < length bytes → Refuses (LoadFault.TooLong (length bytes)) result }
+    ensures faulty { (bytes : List ℕ) (e : NcFault)
+        → Holds (F.seen files.old).folder name.now bytes → length bytes ≤ 2147483647
         → first_fault bytes (length bytes) ≡ Some e → Refuses (LoadFault.Format e) result }
-    ensures found { (bytes : List ℕ) (f : NcFile) → Holds (F.folder files.old) name.now bytes → length bytes ≤ 2147483647
+    ensures found { (bytes : List ℕ) (f : NcFile)
+        → Holds (F.seen files.old).folder name.now bytes → length bytes ≤ 2147483647
         → IsHeader bytes (length bytes) f → Finds f result }
 
-    // No file changes, and no count falls. What was asked for is at most 65,536 bytes, or twice the header.
-    ensures reads { OnlyReads F.folder F.faults F.write_faults F.misses F.taken files.old files.new }
-    ensures taken { IfOk result (λ head. (h : IsHeader head.prefix head.len head.file) → F.taken files.new ≤ F.taken files.old + header_cost (length h.header)) }
-    ensures taken_of_file { IfOk result (λ head. OnFile (F.folder files.old) name.now (λ bytes.
-        (h : IsHeader bytes (length bytes) head.file) → F.taken files.new ≤ F.taken files.old + header_cost (length h.header))) }
+    // No file changes, and no count falls. What was asked for is at most 65,536 bytes, or twice the
+    // header.
+    ensures reads { OnlyReads (F.seen files.old) (F.seen files.new) }
+    ensures asked { IfOk result (λ head. (h : IsHeader head.prefix head.len head.file)
+        → (F.seen files.new).taken ≤ (F.seen files.old).taken + header_cost (length h.header)) }
+    ensures asked_of_file { IfOk result (λ head. OnFile (F.seen files.old).folder name.now
+        (λ bytes. (h : IsHeader bytes (length bytes) head.file) → (F.seen files.new).taken
+        ≤ (F.seen files.old).taken + header_cost (length h.header))) }
 {
     load_head(alloc, files, name)
 }

@@ -3,7 +3,9 @@
 
 mod fault;
 mod header;
+mod numbers;
 mod reads;
+mod refusal;
 #[cfg(test)]
 mod tests;
 mod variables;
@@ -11,7 +13,9 @@ mod variables;
 pub use fault::LoadFault;
 pub use header::load_header;
 use nc_format::{Bytes, NcFile};
-pub use variables::{load_ints, load_longs};
+pub use numbers::Numbers;
+pub use refusal::FileRefusal;
+pub use variables::{load_ints, load_lists, load_longs, load_numbers};
 
 /// The head of a file: its header, its length in bytes, and the first bytes of it, which were read
 /// for the header.

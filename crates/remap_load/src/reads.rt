@@ -1,25 +1,21 @@
 // Calls of `Files` that read.
-ghost use Rattle.std.specs.Prelude.{◌≡◌, ◌≤◌, ◌<◌, ◌+◌, ◌^◌, ◌++◌, length, take, slice_range, IfSome, IfOk, IfErr, OnOk, IsErrOf, None};
-ghost use Rattle.remap_io.specs.Causes.{Rose};
-ghost use Rattle.remap_io.specs.Folder.{file_at};
-ghost use Rattle.remap_load.specs.Frame.{OnlyReads, OnFile};
-ghost use Rattle.remap_load.specs.Faults.{IsOfRead, IsOfLength};
+ghost use Rattle.std.specs.Prelude.{◌≡◌, ◌≤◌, ◌+◌, ◌++◌, length, take, slice_range, IfOk, IfErr, OnOk};
+ghost use Rattle.remap_io.specs.Folder.{OnFile};
+ghost use Rattle.remap_load.specs.Loading.{IsLoadFault, IsReadFault, ReadsAtMost};
 
 use crate::LoadFault;
 use remap_io::{FileErr, Files};
 
 // The greatest length of a file.
-pub const LONGEST: u64 = 2_147_483_647;
+const LONGEST: u64 = 2_147_483_647;
 
 /// The length of a file that isn't too long.
 pub fn length_of<F: Files>(files: &mut F, name: &str) -> Result<u64, LoadFault>
     ensures short { IfOk result (λ len. len ≤ 2147483647) }
-    ensures len { IfOk result (λ len. OnFile (F.folder files.old) name.now (λ bytes. len ≡ length bytes)) }
-    ensures absent { IsErrOf result LoadFault.Absent → Rose (F.misses files.old) (F.misses files.new) }
-    ensures failed { IsErrOf result LoadFault.Failed → Rose (F.faults files.old) (F.faults files.new) }
-    ensures fault { IfErr result (IsOfLength (F.folder files.old) name.now) }
-    ensures reads { OnlyReads F.folder F.faults F.write_faults F.misses F.taken files.old files.new }
-    ensures taken { F.taken files.new ≡ F.taken files.old }
+    ensures len { IfOk result (λ len.
+        OnFile (F.seen files.old).folder name.now (λ bytes. len ≡ length bytes)) }
+    ensures fault { IfErr result (IsLoadFault (F.seen files.old) (F.seen files.new) name.now) }
+    ensures reads { ReadsAtMost (F.seen files.old) (F.seen files.new) 0 }
 {
     match files.size(name) {
         Ok(len) => {
@@ -36,14 +32,12 @@ pub fn length_of<F: Files>(files: &mut F, name: &str) -> Result<u64, LoadFault>
 
 /// Fills `buf` with the bytes of a file from `at` on.
 pub fn read<F: Files>(files: &mut F, name: &str, at: u64, buf: &mut [u8]) -> Result<(), LoadFault>
-    requires in_file { OnFile (F.folder files.old) name.now (λ bytes. at + length buf.old ≤ length bytes) }
-    ensures filled { OnOk result (OnFile (F.folder files.old) name.now (λ bytes. buf.new ≡ slice_range bytes at (at + length buf.old))) }
-    ensures absent { IsErrOf result LoadFault.Absent → Rose (F.misses files.old) (F.misses files.new) }
-    ensures absent_there { IsErrOf result LoadFault.Absent → F.folder files.old ≡ None }
-    ensures failed { IsErrOf result LoadFault.Failed → Rose (F.faults files.old) (F.faults files.new) }
-    ensures only { IfErr result IsOfRead }
-    ensures reads { OnlyReads F.folder F.faults F.write_faults F.misses F.taken files.old files.new }
-    ensures taken { F.taken files.new ≤ F.taken files.old + length buf.old }
+    requires in_file { OnFile (F.seen files.old).folder name.now
+        (λ bytes. at + length buf.old ≤ length bytes) }
+    ensures filled { OnOk result (OnFile (F.seen files.old).folder name.now
+        (λ bytes. buf.new ≡ slice_range bytes at (at + length buf.old))) }
+    ensures fault { IfErr result (IsReadFault (F.seen files.old) (F.seen files.new)) }
+    ensures reads { ReadsAtMost (F.seen files.old) (F.seen files.new) (length buf.old) }
 {
     match files.read_at(name, at, buf) {
         Ok(()) => Ok(()),
@@ -61,16 +55,15 @@ pub fn read_behind<F: Files>(
     more: usize,
     bytes: &mut Vec<u8>,
 ) -> Result<(), LoadFault>
-    requires in_file { OnFile (F.folder files.old) name.now (λ all. at + more ≤ length all) }
-    ensures read { OnOk result (OnFile (F.folder files.old) name.now (λ all. bytes.new.items ≡ bytes.old.items ++ slice_range all at (at + more))) }
-    ensures kept { OnOk result (take (length bytes.old.items) bytes.new.items ≡ bytes.old.items) }
+    requires in_file { OnFile (F.seen files.old).folder name.now
+        (λ all. at + more ≤ length all) }
+    ensures read { OnOk result (OnFile (F.seen files.old).folder name.now
+        (λ all. bytes.new.items ≡ bytes.old.items ++ slice_range all at (at + more))) }
+    ensures kept { OnOk result
+        (take (length bytes.old.items) bytes.new.items ≡ bytes.old.items) }
     ensures len { OnOk result (length bytes.new.items ≡ length bytes.old.items + more) }
-    ensures absent { IsErrOf result LoadFault.Absent → Rose (F.misses files.old) (F.misses files.new) }
-    ensures absent_there { IsErrOf result LoadFault.Absent → F.folder files.old ≡ None }
-    ensures failed { IsErrOf result LoadFault.Failed → Rose (F.faults files.old) (F.faults files.new) }
-    ensures only { IfErr result IsOfRead }
-    ensures reads { OnlyReads F.folder F.faults F.write_faults F.misses F.taken files.old files.new }
-    ensures taken { F.taken files.new ≤ F.taken files.old + more }
+    ensures fault { IfErr result (IsReadFault (F.seen files.old) (F.seen files.new)) }
+    ensures reads { ReadsAtMost (F.seen files.old) (F.seen files.new) more }
 {
     let from = bytes.len();
     if usize::MAX - from < more {

@@ -1,18 +1,19 @@
-// The values of a variable of a file whose head was loaded.
-ghost use Rattle.std.specs.Prelude.{◌≡◌, ◌≤◌, ◌<◌, ◌+◌, ◌*◌, ◌++◌, ℕ, true, length, slice_range, slice_get, Some, None, IfOk, IfErr, OnOk, IsErrOf, IsSome, IsSomeAnd, nat_le, if◌then◌else◌};
-ghost use Rattle.remap_io.specs.Causes.{Rose};
+// The values of variables of a file whose head was loaded.
+ghost use Rattle.std.specs.Prelude.{◌≡◌, ◌≤◌, ◌+◌, ◌*◌, ◌++◌, ◌∷◌, [], ℕ, true, length, map, slice_range, slice_get, Some, IfOk, IfErr, OnOk, IsOkUnless, IsSome, IsSomeAnd, All, nat_le, if◌then◌else◌};
+ghost use Rattle.std.specs.List.{sum_by};
+ghost use Rattle.remap_io.specs.Folder.{OnFile};
 ghost use Rattle.nc_format.specs.declared.NcVar.{NcVar};
 ghost use Rattle.nc_format.specs.Numbers.{is_int, is_long, numbers_in, gathered, HasPieces, HasWholePieces};
-ghost use Rattle.remap_load.specs.Frame.{OnlyReads, OnFile};
 ghost use Rattle.remap_load.specs.Heads.{IsHead, IsHeadOfBytes};
-ghost use Rattle.remap_load.specs.Faults.{IsOfRead};
-ghost use Rattle.remap_load.specs.Pieces.{value_count, values_cost};
+ghost use Rattle.remap_load.specs.Loading.{IsReadFault, ReadsAtMost};
+ghost use Rattle.remap_load.specs.Pieces.{value_count, values_cost, numbers_at, count_at, bytes_at};
 
+use crate::numbers::Numbers;
 use crate::reads::read_behind;
 use crate::{Head, LoadFault};
-use nc_format::{NcVar, int_values, long_values};
+use nc_format::NcVar;
 use remap_io::Files;
-use std::alloc::Global;
+use std::alloc::{AllocError, Global};
 use vec_exact::{Ints, Longs};
 
 // The variable at a place in the list of variables.
@@ -35,15 +36,13 @@ fn put_piece<F: Files>(
 ) -> Result<(), LoadFault>
     requires short { head.now.len ≤ 2147483647 }
     requires inside { at + part ≤ head.now.len }
-    requires of_file { OnFile (F.folder files.old) name.now (IsHeadOfBytes head.now) }
-    ensures piece { OnOk result (OnFile (F.folder files.old) name.now (λ all. bytes.new.items ≡ bytes.old.items ++ slice_range all at (at + part))) }
+    requires of_file { OnFile (F.seen files.old).folder name.now (IsHeadOfBytes head.now) }
+    ensures piece { OnOk result (OnFile (F.seen files.old).folder name.now
+        (λ all. bytes.new.items ≡ bytes.old.items ++ slice_range all at (at + part))) }
     ensures len { OnOk result (length bytes.new.items ≡ length bytes.old.items + part) }
-    ensures absent { IsErrOf result LoadFault.Absent → Rose (F.misses files.old) (F.misses files.new) }
-    ensures absent_there { IsErrOf result LoadFault.Absent → F.folder files.old ≡ None }
-    ensures failed { IsErrOf result LoadFault.Failed → Rose (F.faults files.old) (F.faults files.new) }
-    ensures only { IfErr result IsOfRead }
-    ensures reads { OnlyReads F.folder F.faults F.write_faults F.misses F.taken files.old files.new }
-    ensures taken { F.taken files.new ≤ F.taken files.old + (if nat_le (at + part) (length head.now.prefix) then 0 else part) }
+    ensures fault { IfErr result (IsReadFault (F.seen files.old) (F.seen files.new)) }
+    ensures reads { ReadsAtMost (F.seen files.old) (F.seen files.new)
+        (if nat_le (at + part) (length head.now.prefix) then 0 else part) }
 {
     let prefix = &head.prefix.items;
     if at + part <= prefix.len() as u64 {
@@ -65,15 +64,13 @@ fn piece_bytes<F: Files>(
 ) -> Result<Vec<u8>, LoadFault>
     requires short { head.now.len ≤ 2147483647 }
     requires pieces { HasPieces head.now.len var.now }
-    requires of_file { OnFile (F.folder files.old) name.now (IsHeadOfBytes head.now) }
-    ensures pieces { IfOk result (λ bytes. OnFile (F.folder files.old) name.now (λ all. bytes.items ≡ gathered var.now all)) }
+    requires of_file { OnFile (F.seen files.old).folder name.now (IsHeadOfBytes head.now) }
+    ensures pieces { IfOk result (λ bytes. OnFile (F.seen files.old).folder name.now
+        (λ all. bytes.items ≡ gathered var.now all)) }
     ensures len { IfOk result (λ bytes. length bytes.items ≡ var.now.parts * var.now.part) }
-    ensures absent { IsErrOf result LoadFault.Absent → Rose (F.misses files.old) (F.misses files.new) }
-    ensures absent_there { IsErrOf result LoadFault.Absent → F.folder files.old ≡ None }
-    ensures failed { IsErrOf result LoadFault.Failed → Rose (F.faults files.old) (F.faults files.new) }
-    ensures only { IfErr result IsOfRead }
-    ensures reads { OnlyReads F.folder F.faults F.write_faults F.misses F.taken files.old files.new }
-    ensures taken { F.taken files.new ≤ F.taken files.old + values_cost (length head.now.prefix) var.now }
+    ensures fault { IfErr result (IsReadFault (F.seen files.old) (F.seen files.new)) }
+    ensures reads { ReadsAtMost (F.seen files.old) (F.seen files.new)
+        (values_cost (length head.now.prefix) var.now) }
 {
     let size = (var.part as usize).saturating_mul(var.parts as usize);
     let mut bytes = Vec::with_capacity(alloc, size)?;
@@ -84,63 +81,60 @@ fn piece_bytes<F: Files>(
     Ok(bytes)
 }
 
-fn ints_of<F: Files>(
+// The values of a variable.
+fn values_of<N: Numbers, F: Files>(
     alloc: Global,
     files: &mut F,
     name: &str,
     head: &Head,
     var: &NcVar,
-) -> Result<Ints, LoadFault>
+) -> Result<N, LoadFault>
     requires short { head.now.len ≤ 2147483647 }
     requires pieces { HasWholePieces head.now.len var.now }
-    requires kind { is_int var.now.kind ≡ true }
-    requires of_file { OnFile (F.folder files.old) name.now (IsHeadOfBytes head.now) }
-    ensures values { IfOk result (λ ints. OnFile (F.folder files.old) name.now (λ all. ints ≡ numbers_in var.now.kind (gathered var.now all))) }
-    ensures len { IfOk result (λ ints. length ints ≡ value_count var.now) }
-    ensures absent { IsErrOf result LoadFault.Absent → Rose (F.misses files.old) (F.misses files.new) }
-    ensures absent_there { IsErrOf result LoadFault.Absent → F.folder files.old ≡ None }
-    ensures failed { IsErrOf result LoadFault.Failed → Rose (F.faults files.old) (F.faults files.new) }
-    ensures only { IfErr result IsOfRead }
-    ensures reads { OnlyReads F.folder F.faults F.write_faults F.misses F.taken files.old files.new }
-    ensures taken { F.taken files.new ≤ F.taken files.old + values_cost (length head.now.prefix) var.now }
+    requires kind { N.keeps var.now.kind ≡ true }
+    requires of_file { OnFile (F.seen files.old).folder name.now (IsHeadOfBytes head.now) }
+    ensures values { IfOk result (λ list. OnFile (F.seen files.old).folder name.now
+        (λ all. N.numbers list ≡ numbers_in var.now.kind (gathered var.now all))) }
+    ensures len { IfOk result (λ list. length (N.numbers list) ≡ value_count var.now) }
+    ensures fault { IfErr result (IsReadFault (F.seen files.old) (F.seen files.new)) }
+    ensures reads { ReadsAtMost (F.seen files.old) (F.seen files.new)
+        (values_cost (length head.now.prefix) var.now) }
 {
     let bytes = piece_bytes(alloc, files, name, head, var)?;
-    let items = int_values(alloc, var.kind, &bytes)?;
-    Ok(Ints { items })
+    Ok(N::spelled(alloc, var.kind, &bytes)?)
 }
 
-fn longs_of<F: Files>(
-    alloc: Global,
-    files: &mut F,
-    name: &str,
-    head: &Head,
-    var: &NcVar,
-) -> Result<Longs, LoadFault>
-    requires short { head.now.len ≤ 2147483647 }
-    requires pieces { HasWholePieces head.now.len var.now }
-    requires kind { is_long var.now.kind ≡ true }
-    requires of_file { OnFile (F.folder files.old) name.now (IsHeadOfBytes head.now) }
-    ensures values { IfOk result (λ longs. OnFile (F.folder files.old) name.now (λ all. longs ≡ numbers_in var.now.kind (gathered var.now all))) }
-    ensures len { IfOk result (λ longs. length longs ≡ value_count var.now) }
-    ensures absent { IsErrOf result LoadFault.Absent → Rose (F.misses files.old) (F.misses files.new) }
-    ensures absent_there { IsErrOf result LoadFault.Absent → F.folder files.old ≡ None }
-    ensures failed { IsErrOf result LoadFault.Failed → Rose (F.faults files.old) (F.faults files.new) }
-    ensures only { IfErr result IsOfRead }
-    ensures reads { OnlyReads F.folder F.faults F.write_faults F.misses F.taken files.old files.new }
-    ensures taken { F.taken files.new ≤ F.taken files.old + values_cost (length head.now.prefix) var.now }
-{
-    let bytes = piece_bytes(alloc, files, name, head, var)?;
-    let items = long_values(alloc, var.kind, &bytes)?;
-    Ok(Longs { items })
-}
-
-/// The values of the variable `var`, which counts from 0, in the named file, whose head is `head`. Its
-/// type is BYTE, SHORT or INT.
+/// The values of the variable `var`, which counts from 0, in the named file, whose head is `head`,
+/// as a list that can keep its type.
 ///
 /// A piece of the variable that lies in the first bytes of the head is taken from there. Each other
 /// one is read whole by one call, also one that lies there in part. There are as many values as the
 /// variable has. `Failed` and `NoMemory` may come in place of them, and `Absent` where the folder is
 /// not told.
+pub fn load_numbers<N: Numbers, F: Files>(
+    alloc: Global,
+    files: &mut F,
+    name: &str,
+    head: &Head,
+    var: u32,
+) -> Result<N, LoadFault>
+    requires head { IsHead head.now }
+    requires of_file { OnFile (F.seen files.old).folder name.now (IsHeadOfBytes head.now) }
+    requires var { IsSomeAnd (slice_get head.now.file.vars var) (λ v. N.keeps v.kind ≡ true) }
+    ensures values { IfOk result (λ list. OnFile (F.seen files.old).folder name.now
+        (λ bytes. N.numbers list ≡ numbers_at head.now.file bytes var)) }
+    ensures len { IfOk result (λ list. length (N.numbers list) ≡ count_at head.now.file var) }
+    ensures fault { IfErr result (IsReadFault (F.seen files.old) (F.seen files.new)) }
+    ensures reads { ReadsAtMost (F.seen files.old) (F.seen files.new)
+        (bytes_at head.now.file var) }
+    ensures first { (v : NcVar) → slice_get head.now.file.vars var ≡ Some v
+        → ReadsAtMost (F.seen files.old) (F.seen files.new)
+        (values_cost (length head.now.prefix) v) }
+{
+    values_of(alloc, files, name, head, variable(head, var))
+}
+
+/// `load_numbers` in 32 bits: the type of the variable is BYTE, SHORT or INT.
 pub fn load_ints<F: Files>(
     alloc: Global,
     files: &mut F,
@@ -149,28 +143,29 @@ pub fn load_ints<F: Files>(
     var: u32,
 ) -> Result<Ints, LoadFault>
     requires head { IsHead head.now }
-    requires of_file { OnFile (F.folder files.old) name.now (IsHeadOfBytes head.now) }
+    requires of_file { OnFile (F.seen files.old).folder name.now (IsHeadOfBytes head.now) }
     requires var { IsSomeAnd (slice_get head.now.file.vars var) (λ v. is_int v.kind ≡ true) }
 
-    ensures values { (v : NcVar) → slice_get head.now.file.vars var ≡ Some v →
-        IfOk result (λ ints. OnFile (F.folder files.old) name.now (λ bytes. ints ≡ numbers_in v.kind (gathered v bytes))) }
-    ensures len { (v : NcVar) → slice_get head.now.file.vars var ≡ Some v → IfOk result (λ ints. length ints ≡ value_count v) }
+    // The values are those of the file, where the folder is told, and as many as the variable has.
+    ensures values { IfOk result (λ ints. OnFile (F.seen files.old).folder name.now
+        (λ bytes. ints ≡ numbers_at head.now.file bytes var)) }
+    ensures len { IfOk result (λ ints. length ints ≡ count_at head.now.file var) }
 
     // A miss or a failed read is counted, and there is no miss where the folder is told.
-    ensures absent { IsErrOf result LoadFault.Absent → Rose (F.misses files.old) (F.misses files.new) }
-    ensures absent_there { IsErrOf result LoadFault.Absent → F.folder files.old ≡ None }
-    ensures failed { IsErrOf result LoadFault.Failed → Rose (F.faults files.old) (F.faults files.new) }
-    ensures only { IfErr result IsOfRead }
+    ensures fault { IfErr result (IsReadFault (F.seen files.old) (F.seen files.new)) }
 
-    // No file changes, and no count falls. Only pieces that do not lie in the first bytes are asked for.
-    ensures reads { OnlyReads F.folder F.faults F.write_faults F.misses F.taken files.old files.new }
-    ensures taken { (v : NcVar) → slice_get head.now.file.vars var ≡ Some v → F.taken files.new ≤ F.taken files.old + values_cost (length head.now.prefix) v }
-    ensures taken_pieces { (v : NcVar) → slice_get head.now.file.vars var ≡ Some v → F.taken files.new ≤ F.taken files.old + v.parts * v.part }
+    // Only the bytes of the variable are asked for, and of these none of a piece that lies in the
+    // first bytes.
+    ensures reads { ReadsAtMost (F.seen files.old) (F.seen files.new)
+        (bytes_at head.now.file var) }
+    ensures first { (v : NcVar) → slice_get head.now.file.vars var ≡ Some v
+        → ReadsAtMost (F.seen files.old) (F.seen files.new)
+        (values_cost (length head.now.prefix) v) }
 {
-    ints_of(alloc, files, name, head, variable(head, var))
+    load_numbers(alloc, files, name, head, var)
 }
 
-/// The same in 64 bits; the type of the variable is BYTE, SHORT, INT or INT64.
+/// `load_numbers` in 64 bits: the type of the variable is BYTE, SHORT, INT or INT64.
 pub fn load_longs<F: Files>(
     alloc: Global,
     files: &mut F,
@@ -179,23 +174,55 @@ pub fn load_longs<F: Files>(
     var: u32,
 ) -> Result<Longs, LoadFault>
     requires head { IsHead head.now }
-    requires of_file { OnFile (F.folder files.old) name.now (IsHeadOfBytes head.now) }
+    requires of_file { OnFile (F.seen files.old).folder name.now (IsHeadOfBytes head.now) }
     requires var { IsSomeAnd (slice_get head.now.file.vars var) (λ v. is_long v.kind ≡ true) }
 
-    ensures values { (v : NcVar) → slice_get head.now.file.vars var ≡ Some v →
-        IfOk result (λ longs. OnFile (F.folder files.old) name.now (λ bytes. longs ≡ numbers_in v.kind (gathered v bytes))) }
-    ensures len { (v : NcVar) → slice_get head.now.file.vars var ≡ Some v → IfOk result (λ longs. length longs ≡ value_count v) }
-
-    // A miss or a failed read is counted, and there is no miss where the folder is told.
-    ensures absent { IsErrOf result LoadFault.Absent → Rose (F.misses files.old) (F.misses files.new) }
-    ensures absent_there { IsErrOf result LoadFault.Absent → F.folder files.old ≡ None }
-    ensures failed { IsErrOf result LoadFault.Failed → Rose (F.faults files.old) (F.faults files.new) }
-    ensures only { IfErr result IsOfRead }
-
-    // No file changes, and no count falls. Only pieces that do not lie in the first bytes are asked for.
-    ensures reads { OnlyReads F.folder F.faults F.write_faults F.misses F.taken files.old files.new }
-    ensures taken { (v : NcVar) → slice_get head.now.file.vars var ≡ Some v → F.taken files.new ≤ F.taken files.old + values_cost (length head.now.prefix) v }
-    ensures taken_pieces { (v : NcVar) → slice_get head.now.file.vars var ≡ Some v → F.taken files.new ≤ F.taken files.old + v.parts * v.part }
+    // As of `load_ints`.
+    ensures values { IfOk result (λ longs. OnFile (F.seen files.old).folder name.now
+        (λ bytes. longs ≡ numbers_at head.now.file bytes var)) }
+    ensures len { IfOk result (λ longs. length longs ≡ count_at head.now.file var) }
+    ensures fault { IfErr result (IsReadFault (F.seen files.old) (F.seen files.new)) }
+    ensures reads { ReadsAtMost (F.seen files.old) (F.seen files.new)
+        (bytes_at head.now.file var) }
+    ensures first { (v : NcVar) → slice_get head.now.file.vars var ≡ Some v
+        → ReadsAtMost (F.seen files.old) (F.seen files.new)
+        (values_cost (length head.now.prefix) v) }
 {
-    longs_of(alloc, files, name, head, variable(head, var))
+    load_numbers(alloc, files, name, head, var)
+}
+
+fn push<N: Drop>(lists: &mut Vec<N>, list: N) -> Result<(), LoadFault>
+    ensures read { OnOk result (lists.new.items ≡ lists.old.items ++ list ∷ []) }
+    ensures fault { IsOkUnless result LoadFault.NoMemory }
+{
+    lists.push(list).map_err(AllocError::from)?;
+    Ok(())
+}
+
+/// The values of the variables at some places, one list for each, in their order.
+pub fn load_lists<N: Numbers, F: Files>(
+    alloc: Global,
+    files: &mut F,
+    name: &str,
+    head: &Head,
+    places: &[u32],
+) -> Result<Vec<N>, LoadFault>
+    requires head { IsHead head.now }
+    requires of_file { OnFile (F.seen files.old).folder name.now (IsHeadOfBytes head.now) }
+    requires vars { All (λ place. IsSomeAnd (slice_get head.now.file.vars place)
+        (λ v. N.keeps v.kind ≡ true)) places.now }
+    ensures values { IfOk result (λ lists. OnFile (F.seen files.old).folder name.now (λ bytes.
+        map N.numbers lists.items ≡ map (numbers_at head.now.file bytes) places.now)) }
+    ensures lens { IfOk result (λ lists. map (λ list. length (N.numbers list)) lists.items
+        ≡ map (count_at head.now.file) places.now) }
+    ensures fault { IfErr result (IsReadFault (F.seen files.old) (F.seen files.new)) }
+    ensures reads { ReadsAtMost (F.seen files.old) (F.seen files.new)
+        (sum_by (bytes_at head.now.file) places.now) }
+{
+    let mut lists = Vec::new(alloc);
+    for place in places {
+        let list: N = load_numbers(alloc, files, name, head, *place)?;
+        push(&mut lists, list)?;
+    }
+    Ok(lists)
 }

@@ -1,241 +1,279 @@
--- What is promised of a call, by how it ends.
-use Rattle.std.proofs.Common.{◌≡◌, ◌≢◌, ◌⊎◌, ◌∙◌, ℕ, List, true, Option, Some, option_map, codes, refl, sym, ap, subst, inl, inr}
-use Rattle.vec_exact.specs.declared.RawMesh.{RawMesh}
+-- What is promised of a call, by what it comes to.
+use Rattle.std.proofs.Common.{◌≡◌, ◌≢◌, ◌⊎◌, ◌∙◌, ◌+◌, ◌≤◌, ℕ, List, [], ◌∷◌, true, false, Option, Some, None, codes, refl, sym, ap, subst, inl, inr}
+use Rattle.remap_io.specs.Causes.{Rose}
 use Rattle.remap_io.specs.Folder.{Folder}
-use Rattle.mesh_check.specs.declared.faults.MeshFault.{MeshFault}
-use Rattle.mesh_check.specs.declared.faults.MeshFault.TheVariants.{NoMemory as NoMeshMemory}
-use Rattle.mesh_check.specs.declared.faults.GenFault.{GenFault}
-use Rattle.mesh_check.specs.declared.faults.GenFault.TheVariants.{Mesh as FaultOfMade, NoMemory as NoMadeMemory}
-use Rattle.mesh_check.specs.Mesh.{IsAcceptedMesh}
+use Rattle.remap_load.specs.declared.fault.LoadFault.TheVariants as load
+use Rattle.remap_load.specs.declared.refusal.FileRefusal.{FileRefusal}
+use Rattle.remap_load.specs.declared.refusal.FileRefusal.TheVariants.{Load, Content}
+use Rattle.mesh_load.specs.declared.MeshFileFault.{MeshFileFault}
+use Rattle.mesh_load.specs.declared.MeshFileFault.TheVariants as of_file
 use Rattle.command_line.specs.declared.choices.Chosen.{Chosen}
+use Rattle.command_line.specs.declared.choices.Chosen.TheVariants.{Cs, Rll, Ico, Overlap, OfflineMap, Apply, SelfRun, Coverage, Check}
 use Rattle.tempest_top.specs.declared.status.Status.{Status}
 use Rattle.tempest_top.specs.declared.status.Status.TheVariants.{Done, Usage, NoFile, Format, Names, Mesh, Rows, Uncovered, Limit, Field, ReadFault, WriteFault, NoMemory}
-use Rattle.tempest_top.specs.Lines.{line_of, GainsLine}
-use Rattle.tempest_top.specs.Faults.{mesh_fault_text, made_text, status_of_made, read_fault_text}
-use Rattle.tempest_top.specs.Inputs.{inputs_of, output_of, AreTold, IsReached}
-use Rattle.tempest_top.specs.Outcome.{Output, Outcome, IsOutcome, IsOutcomeOfMade, TheOutcome, refusal, fault_of_made, mesh_output, mesh_written, is_usage}
-use Rattle.tempest_top.specs.Ends.{IsEnd, IsEndLine, Ends, IsStopped}
-use Rattle.tempest_top.specs.Promises.{IsAnswer, IsText, IsWriteFaultLine, PutsLine, Keeps}
-use Rattle.tempest_top.proofs.Outcomes.{one_outcome, accepted_made, usage_outcome}
+use Rattle.tempest_top.specs.Scene.{Scene}
+use Rattle.tempest_top.specs.Lines.{line_of, GainsLine, IsPutRefused, PutsText}
+use Rattle.tempest_top.specs.Faults.{FileWords, status_of, mesh_words}
+use Rattle.tempest_top.specs.Inputs.{Input, MeshFile, inputs_of, output_of, AreTold, IsReached, IsFileText, IsInputText}
+use Rattle.tempest_top.specs.Outcome.{Output, Outcome, IsOutcome, TheOutcome, refusal, is_usage, usage}
+use Rattle.tempest_top.specs.Promises.{IsWriteFailed, IsAnswer, IsWriteFaultText, IsUsageText, IsOwnText, IsTextOf, IsText, IsLineText, PutsLine, Keeps}
+use Rattle.tempest_top.specs.Ends.{IsEnd, IsEndText, written_name, Ends, Belongs, IsStopped, IsCutShort, IsEnded, Comes}
+use Rattle.tempest_top.proofs.Outcomes.{one_outcome, usage_outcome}
+use Rattle.tempest_top.proofs.Coming.{IsContentStatus, IsSpoken, IsInput, comes_own, comes_stopped}
 
 -- the outcome is the only one
 the_outcome : (chosen : Option Chosen) (m : Option Folder) (P : Outcome → Type 0) (o : Outcome) → (AreTold (inputs_of chosen) m → IsOutcome chosen m o) → P o → TheOutcome chosen m P
 the_outcome chosen m P o is holds = λ told. (o, is told, (λ p h. one_outcome chosen m p o h (is told)), holds)
 
--- an outcome that belongs to the words: their outcome where the folder is told, with their output file and with a text of its status
-pub record Belongs (chosen : Option Chosen) (m : Option Folder) (o : Outcome) : Type 0 where
-  pub outcome : AreTold (inputs_of chosen) m → IsOutcome chosen m o
-  pub named : (output : Output) → o.output ≡ Some output → output_of chosen ≡ Some output.name
-  pub told : (o.status ≡ Done) ⊎ ((text : List ℕ) × IsText chosen m text o.status × (o.line ≡ line_of text))
+-- what fails at a write is counted
+fault_cause : (name : Option (List ℕ)) (before after : Scene) (text : List ℕ) → IsWriteFaultText name before after text → IsWriteFailed before after
+fault_cause None before after text h = inr h.1
+fault_cause (Some name) before after text (inl h) = inl h.1
+fault_cause (Some name) before after text (inr h) = inr h.1
 
--- what fails at a write is named
-fault_cause : (name : List ℕ) (line : List ℕ) (writes outs : Type 0) → IsWriteFaultLine (Some name) line writes outs → writes ⊎ outs
-fault_cause name line writes outs (inl h) = inl h.1
-fault_cause name line writes outs (inr h) = inr h.1
-
--- a write fault, as a call ends with it
-abbrev pub IsFaultEnd : Outcome → Type 0 → Type 0 → Option (List ℕ) → Option (List ℕ) → Type 0 → Type 0
-IsFaultEnd o writes outs old_err new_err cause = (output : Output) × (line : List ℕ) × (o.output ≡ Some output) × IsWriteFaultLine (Some output.name) line writes outs × GainsLine old_err new_err line cause
+-- and named
+named_fault : (output : Option (List ℕ)) (written : Option Output) (before after : Scene) (text : List ℕ) → ((file : Output) → written ≡ Some file → output ≡ Some file.name) → IsWriteFaultText (written_name written) before after text → IsWriteFaultText output before after text
+named_fault None None before after text named h = h
+named_fault (Some name) None before after text named h = inr h
+named_fault output (Some file) before after text named h = subst (λ (n : Option (List ℕ)). IsWriteFaultText n before after text) (sym (named file refl)) h
 
 -- the status of a call that came to the outcome is an answer
-answer : (chosen : Option Chosen) (m : Option Folder) (o : Outcome) (reads writes outs : Type 0) (old_err new_err : Option (List ℕ)) (cause : Type 0) (status : Status) → (AreTold (inputs_of chosen) m → IsOutcome chosen m o) → IsEnd o status
-    → (status ≡ WriteFault → IsFaultEnd o writes outs old_err new_err cause) → IsAnswer chosen m reads (writes ⊎ outs) status
-answer chosen m o reads writes outs old_err new_err cause Done is end fault = the_outcome chosen m _ o is end
-answer chosen m o reads writes outs old_err new_err cause Usage is end fault = the_outcome chosen m _ o is end
-answer chosen m o reads writes outs old_err new_err cause NoFile is end fault = the_outcome chosen m _ o is end
-answer chosen m o reads writes outs old_err new_err cause Format is end fault = the_outcome chosen m _ o is end
-answer chosen m o reads writes outs old_err new_err cause Names is end fault = the_outcome chosen m _ o is end
-answer chosen m o reads writes outs old_err new_err cause Mesh is end fault = the_outcome chosen m _ o is end
-answer chosen m o reads writes outs old_err new_err cause Rows is end fault = the_outcome chosen m _ o is end
-answer chosen m o reads writes outs old_err new_err cause Uncovered is end fault = the_outcome chosen m _ o is end
-answer chosen m o reads writes outs old_err new_err cause Limit is end fault = the_outcome chosen m _ o is end
-answer chosen m o reads writes outs old_err new_err cause Field is end fault = the_outcome chosen m _ o is end
-answer chosen m o reads writes outs old_err new_err cause ReadFault is end fault = absurd end
-answer chosen m o reads writes outs old_err new_err cause WriteFault is end fault = let put = fault refl in (the_outcome chosen m _ o is end, fault_cause put.0.name put.1 writes outs put.3)
-answer chosen m o reads writes outs old_err new_err cause NoMemory is end fault = tt
+answer : (chosen : Option Chosen) (before after : Scene) (o : Outcome) (status : Status) → (AreTold (inputs_of chosen) before.files.folder → IsOutcome chosen before.files.folder o) → IsEnd o status → (status ≡ WriteFault → IsWriteFailed before after) → IsAnswer chosen before after status
+answer chosen before after o Done is end fault = the_outcome chosen _ _ o is end
+answer chosen before after o Usage is end fault = the_outcome chosen _ _ o is end
+answer chosen before after o NoFile is end fault = the_outcome chosen _ _ o is end
+answer chosen before after o Format is end fault = the_outcome chosen _ _ o is end
+answer chosen before after o Names is end fault = the_outcome chosen _ _ o is end
+answer chosen before after o Mesh is end fault = the_outcome chosen _ _ o is end
+answer chosen before after o Rows is end fault = the_outcome chosen _ _ o is end
+answer chosen before after o Uncovered is end fault = the_outcome chosen _ _ o is end
+answer chosen before after o Limit is end fault = the_outcome chosen _ _ o is end
+answer chosen before after o Field is end fault = the_outcome chosen _ _ o is end
+answer chosen before after o ReadFault is end fault = absurd end
+answer chosen before after o WriteFault is end fault = (the_outcome chosen _ _ o is end, fault refl)
+answer chosen before after o NoMemory is end fault = tt
 
--- its line has a text of its status
-abbrev HasText : Option Chosen → Option Folder → List ℕ → Status → Type 0
-HasText chosen m line status = (text : List ℕ) × IsText chosen m text status × (line ≡ line_of text)
+-- an outcome that belongs to the words
+abbrev BelongsTo : Option Chosen → Option Folder → Outcome → Type 0
+BelongsTo chosen m o = Belongs (inputs_of chosen) (IsOwnText chosen) (output_of chosen) (IsOutcome chosen) m o
 
-has_text : (chosen : Option Chosen) (m : Option Folder) (o : Outcome) (line : List ℕ) (status : Status) → Belongs chosen m o → status ≢ Done → o.status ≡ status → line ≡ o.line → HasText chosen m line status
-has_text chosen m o line status belongs not_done is same =
-    elim belongs.told as (λ _. HasText chosen m line status) [ inl done ↦ absurd (not_done (sym is ∙ done)) | inr text ↦ (text.0, subst (λ (s : Status). IsText chosen m text.0 s) is text.1, same ∙ text.2) ]
+-- its own text, which is that of its line
+has_text : (chosen : Option Chosen) (m : Option Folder) (o : Outcome) (status : Status) → BelongsTo chosen m o → status ≢ Done → o.status ≡ status → (text : List ℕ) × IsText chosen m text status × (o.line ≡ line_of text)
+has_text chosen m o status belongs not_done is =
+    elim belongs.told as (λ _. (text : List ℕ) × IsText chosen m text status × (o.line ≡ line_of text)) [ inl done ↦ absurd (not_done (sym is ∙ done)) | inr t ↦ (t.0, subst (IsText chosen m t.0) is t.1, t.2) ]
 
 -- a line that was put, as a call ends with it
-abbrev pub IsLineEnd : Outcome → Option (List ℕ) → Option (List ℕ) → Type 0 → Status → Type 0
-IsLineEnd o old_err new_err cause status = (line : List ℕ) × IsEndLine o line status × GainsLine old_err new_err line cause
+abbrev IsLineEnd : Outcome → Scene → Scene → Status → Type 0
+IsLineEnd o before after status = (text : List ℕ) × IsEndText o text status × PutsText before.err after.err text
 
-puts : (chosen : Option Chosen) (m : Option Folder) (o : Outcome) (writes outs : Type 0) (old_err new_err : Option (List ℕ)) (cause : Type 0) (status : Status) → Belongs chosen m o → status ≢ Done → IsEnd o status
-    → (status ≢ Done → status ≢ WriteFault → IsLineEnd o old_err new_err cause status) → (status ≡ WriteFault → IsFaultEnd o writes outs old_err new_err cause) → PutsLine chosen m old_err new_err writes outs cause status
-puts chosen m o writes outs old_err new_err cause Done belongs not_done end plain fault = absurd (not_done refl)
-puts chosen m o writes outs old_err new_err cause Usage belongs not_done end plain fault =
-    let put = plain not_done (λ h. cc) in (put.0, (has_text chosen m o put.0 Usage belongs not_done end put.1, the_outcome chosen m _ o belongs.outcome put.1), put.2)
-puts chosen m o writes outs old_err new_err cause NoFile belongs not_done end plain fault =
-    let put = plain not_done (λ h. cc) in (put.0, (has_text chosen m o put.0 NoFile belongs not_done end put.1, the_outcome chosen m _ o belongs.outcome put.1), put.2)
-puts chosen m o writes outs old_err new_err cause Format belongs not_done end plain fault =
-    let put = plain not_done (λ h. cc) in (put.0, (has_text chosen m o put.0 Format belongs not_done end put.1, the_outcome chosen m _ o belongs.outcome put.1), put.2)
-puts chosen m o writes outs old_err new_err cause Names belongs not_done end plain fault =
-    let put = plain not_done (λ h. cc) in (put.0, (has_text chosen m o put.0 Names belongs not_done end put.1, the_outcome chosen m _ o belongs.outcome put.1), put.2)
-puts chosen m o writes outs old_err new_err cause Mesh belongs not_done end plain fault =
-    let put = plain not_done (λ h. cc) in (put.0, (has_text chosen m o put.0 Mesh belongs not_done end put.1, the_outcome chosen m _ o belongs.outcome put.1), put.2)
-puts chosen m o writes outs old_err new_err cause Rows belongs not_done end plain fault =
-    let put = plain not_done (λ h. cc) in (put.0, (has_text chosen m o put.0 Rows belongs not_done end put.1, the_outcome chosen m _ o belongs.outcome put.1), put.2)
-puts chosen m o writes outs old_err new_err cause Uncovered belongs not_done end plain fault =
-    let put = plain not_done (λ h. cc) in (put.0, (has_text chosen m o put.0 Uncovered belongs not_done end put.1, the_outcome chosen m _ o belongs.outcome put.1), put.2)
-puts chosen m o writes outs old_err new_err cause Limit belongs not_done end plain fault =
-    let put = plain not_done (λ h. cc) in (put.0, (has_text chosen m o put.0 Limit belongs not_done end put.1, the_outcome chosen m _ o belongs.outcome put.1), put.2)
-puts chosen m o writes outs old_err new_err cause Field belongs not_done end plain fault =
-    let put = plain not_done (λ h. cc) in (put.0, (has_text chosen m o put.0 Field belongs not_done end put.1, the_outcome chosen m _ o belongs.outcome put.1), put.2)
-puts chosen m o writes outs old_err new_err cause ReadFault belongs not_done end plain fault = absurd end
-puts chosen m o writes outs old_err new_err cause WriteFault belongs not_done end plain fault =
-    let put = fault refl in (put.1, subst (λ (name : Option (List ℕ)). IsWriteFaultLine name put.1 writes outs) (sym (belongs.named put.0 put.2)) put.3, put.4)
-puts chosen m o writes outs old_err new_err cause NoMemory belongs not_done end plain fault = plain not_done (λ h. cc)
+abbrev IsFaultEnd : Outcome → Scene → Scene → Type 0
+IsFaultEnd o before after = (text : List ℕ) × IsWriteFaultText (written_name o.output) before after text × PutsText before.err after.err text
 
-either : {A B C : Type 0} → (A → B) → A ⊎ C → B ⊎ C
-either f (inl a) = inl (f a)
-either f (inr c) = inr c
+-- of the line that was put and the line of the outcome there is one text
+own_line : (chosen : Option Chosen) (before after : Scene) (o : Outcome) (status : Status) → BelongsTo chosen before.files.folder o → status ≢ Done → o.status ≡ status → (put : List ℕ) → o.line ≡ line_of put → PutsText before.err after.err put
+    → (text : List ℕ) × (IsText chosen before.files.folder text status × TheOutcome chosen before.files.folder (λ p. p.line ≡ line_of text)) × PutsText before.err after.err text
+own_line chosen before after o status belongs not_done is put line puts =
+    let t = has_text chosen before.files.folder o status belongs not_done is in
+    (t.0, (t.1, the_outcome chosen _ _ o belongs.outcome t.2), subst (λ (l : List ℕ). GainsLine before.err.contents after.err.contents l (IsPutRefused before.err after.err)) (sym line ∙ t.2) puts)
 
-fault_later : (name : List ℕ) (line : List ℕ) (writes later outs : Type 0) → (later → writes) → IsWriteFaultLine (Some name) line later outs → IsWriteFaultLine (Some name) line writes outs
-fault_later name line writes later outs rose (inl h) = inl (h.0, rose h.1)
-fault_later name line writes later outs rose (inr h) = inr h
+puts : (chosen : Option Chosen) (before after : Scene) (o : Outcome) (status : Status) → BelongsTo chosen before.files.folder o → status ≢ Done → IsEnd o status → (status ≢ Done → status ≢ WriteFault → IsLineEnd o before after status) → (status ≡ WriteFault → IsFaultEnd o before after) → PutsLine chosen before after status
+puts chosen before after o Done belongs not_done end plain fault = absurd (not_done refl)
+puts chosen before after o Usage belongs not_done end plain fault = let put = plain not_done (λ h. cc) in own_line chosen before after o Usage belongs not_done end put.0 put.1 put.2
+puts chosen before after o NoFile belongs not_done end plain fault = let put = plain not_done (λ h. cc) in own_line chosen before after o NoFile belongs not_done end put.0 put.1 put.2
+puts chosen before after o Format belongs not_done end plain fault = let put = plain not_done (λ h. cc) in own_line chosen before after o Format belongs not_done end put.0 put.1 put.2
+puts chosen before after o Names belongs not_done end plain fault = let put = plain not_done (λ h. cc) in own_line chosen before after o Names belongs not_done end put.0 put.1 put.2
+puts chosen before after o Mesh belongs not_done end plain fault = let put = plain not_done (λ h. cc) in own_line chosen before after o Mesh belongs not_done end put.0 put.1 put.2
+puts chosen before after o Rows belongs not_done end plain fault = let put = plain not_done (λ h. cc) in own_line chosen before after o Rows belongs not_done end put.0 put.1 put.2
+puts chosen before after o Uncovered belongs not_done end plain fault = let put = plain not_done (λ h. cc) in own_line chosen before after o Uncovered belongs not_done end put.0 put.1 put.2
+puts chosen before after o Limit belongs not_done end plain fault = let put = plain not_done (λ h. cc) in own_line chosen before after o Limit belongs not_done end put.0 put.1 put.2
+puts chosen before after o Field belongs not_done end plain fault = let put = plain not_done (λ h. cc) in own_line chosen before after o Field belongs not_done end put.0 put.1 put.2
+puts chosen before after o ReadFault belongs not_done end plain fault = absurd end
+puts chosen before after o WriteFault belongs not_done end plain fault = let put = fault refl in (put.0, named_fault (output_of chosen) o.output before after put.0 belongs.named put.1, put.2)
+puts chosen before after o NoMemory belongs not_done end plain fault = plain not_done (λ h. cc)
 
 or_same : {A B C : Type 0} → (B → C) → A ⊎ B → A ⊎ C
 or_same f (inl a) = inl a
 or_same f (inr b) = inr (f b)
 
--- A call that comes to an outcome that belongs to the words keeps what is promised.
-pub keeps : (chosen : Option Chosen) (m new : Option Folder) (o : Outcome) (misses reads writes outs : Type 0) (old_out new_out old_err new_err : Option (List ℕ)) (cause : Type 0) (status : Status)
-    → Belongs chosen m o → (status ≡ NoFile → misses)
-    → Ends o m new writes outs old_out new_out old_err new_err cause status → Keeps chosen m new misses reads writes outs old_out new_out old_err new_err cause status
-keeps chosen m new o misses reads writes outs old_out new_out old_err new_err cause status belongs no_file ends = record {
-  answer = answer chosen m o reads writes outs old_err new_err cause status belongs.outcome ends.answer ends.fault_line;
-  done_folder = λ h. the_outcome chosen m _ o belongs.outcome (ends.done_folder h);
-  done_text = λ h. the_outcome chosen m _ o belongs.outcome (ends.done_text h);
-  refused_folder = λ h. or_same (λ late. (late.0, the_outcome chosen m _ o belongs.outcome (late.1, late.2))) (ends.refused_folder h);
-  refused_text = λ h. or_same (λ late. (late.0, the_outcome chosen m _ o belongs.outcome (late.1, late.2))) (ends.refused_text h);
-  text_after_file = or_same (the_outcome chosen m _ o belongs.outcome) ends.text_after_file;
-  fault_after_file = λ h. or_same (the_outcome chosen m _ o belongs.outcome) (ends.fault_after_file h);
-  refused_line = λ h. puts chosen m o writes outs old_err new_err cause status belongs h ends.answer ends.refused_line ends.fault_line;
-  no_file = no_file;
-}
+-- Which texts a command never has.
 
--- memory that ran out before a device was called that writes
-pub keeps_stopped : (chosen : Option Chosen) (m new : Option Folder) (misses reads writes outs : Type 0) (old_out new_out old_err new_err : Option (List ℕ)) (cause : Type 0) (status : Status) → IsStopped m new old_out new_out old_err new_err cause status
-    → Keeps chosen m new misses reads writes outs old_out new_out old_err new_err cause status
-keeps_stopped chosen m new misses reads writes outs old_out new_out old_err new_err cause status stopped =
-    subst (λ (s : Status). Keeps chosen m new misses reads writes outs old_out new_out old_err new_err cause s) (sym stopped.is_memory) (record {
+content_not : (s : Status) → IsContentStatus s → (s ≢ Usage) × (s ≢ NoFile)
+content_not Names h = (λ e. cc, λ e. cc)
+content_not Mesh h = (λ e. cc, λ e. cc)
+content_not Rows h = (λ e. cc, λ e. cc)
+content_not Field h = (λ e. cc, λ e. cc)
+content_not Done h = absurd h
+content_not Usage h = absurd h
+content_not NoFile h = absurd h
+content_not Format h = absurd h
+content_not Uncovered h = absurd h
+content_not Limit h = absurd h
+content_not ReadFault h = absurd h
+content_not WriteFault h = absurd h
+content_not NoMemory h = absurd h
+
+never_usage : {A C : Type 0} (words : FileWords A C) → IsSpoken words → (why : FileRefusal C) → Usage ≡ status_of words why → ⊥
+never_usage words spoken (Load load.Absent) h = absurd cc
+never_usage words spoken (Load load.Failed) h = absurd cc
+never_usage words spoken (Load (load.TooLong n)) h = absurd cc
+never_usage words spoken (Load (load.Format f)) h = absurd cc
+never_usage words spoken (Load load.NoMemory) h = absurd cc
+never_usage words spoken (Content c) h = (content_not (words.status c) (spoken c)).0 (sym h)
+
+pub mesh_spoken : IsSpoken mesh_words
+mesh_spoken (of_file.Names fault) = tt
+mesh_spoken (of_file.Mesh fault) = tt
+
+input_usage : (input : Input) (text : List ℕ) → IsInputText input text Usage → ⊥
+input_usage (MeshFile name) text h = never_usage mesh_words mesh_spoken h.0 h.2
+
+own_usage : (chosen : Option Chosen) (text : List ℕ) → IsOwnText chosen text Usage → is_usage chosen ≡ true
+own_usage None text h = refl
+own_usage (Some (Cs res file)) text h = absurd h
+own_usage (Some (Rll lon lat file)) text h = absurd (let e = h.0 in cc)
+own_usage (Some (Ico res dual file)) text h = absurd (let e = h.0 in cc)
+own_usage (Some (Overlap a b out workers)) text (inl h) = absurd (let e = h.0 in cc)
+own_usage (Some (Overlap a b out workers)) text (inr h) = absurd (let e = h.0 in cc)
+own_usage (Some (OfflineMap in_mesh out_mesh ov_mesh out_map)) text h = refl
+own_usage (Some (Apply map var in_data out_data masked)) text h = refl
+own_usage (Some (SelfRun n workers)) text h = refl
+own_usage (Some (Coverage a b)) text h = refl
+own_usage (Some (Check file workers)) text h = refl
+
+text_usage : (chosen : Option Chosen) (m : Option Folder) (text : List ℕ) → IsText chosen m text Usage → is_usage chosen ≡ true
+text_usage chosen m text (inl h) = absurd (input_usage h.0 text h.2)
+text_usage chosen m text (inr h) = own_usage chosen text h
+
+own_no_file : (chosen : Option Chosen) (text : List ℕ) → IsOwnText chosen text NoFile → ⊥
+own_no_file None text h = let e = h.0 in absurd cc
+own_no_file (Some (Cs res file)) text h = h
+own_no_file (Some (Rll lon lat file)) text h = let e = h.0 in absurd cc
+own_no_file (Some (Ico res dual file)) text h = let e = h.0 in absurd cc
+own_no_file (Some (Overlap a b out workers)) text (inl h) = let e = h.0 in absurd cc
+own_no_file (Some (Overlap a b out workers)) text (inr h) = let e = h.0 in absurd cc
+own_no_file (Some (OfflineMap in_mesh out_mesh ov_mesh out_map)) text h = let e = h.0 in absurd cc
+own_no_file (Some (Apply map var in_data out_data masked)) text h = let e = h.0 in absurd cc
+own_no_file (Some (SelfRun n workers)) text h = let e = h.0 in absurd cc
+own_no_file (Some (Coverage a b)) text h = let e = h.0 in absurd cc
+own_no_file (Some (Check file workers)) text h = let e = h.0 in absurd cc
+
+none_reached : (inputs : List Input) (m : Option Folder) (input : Input) → inputs ≡ [] → IsReached inputs m input → ⊥
+none_reached [] m input e h = h
+none_reached (first ∷ inputs) m input e h = absurd cc
+
+text_no_file : (chosen : Option Chosen) (m : Option Folder) (text : List ℕ) → inputs_of chosen ≡ [] → IsText chosen m text NoFile → ⊥
+text_no_file chosen m text none (inl h) = none_reached (inputs_of chosen) m h.0 none h.1
+text_no_file chosen m text none (inr h) = own_no_file chosen text h
+
+ended_usage : (chosen : Option Chosen) (m : Option Folder) (o : Outcome) (status : Status) → BelongsTo chosen m o → IsEnd o status → status ≡ Usage → is_usage chosen ≡ true
+ended_usage chosen m o status belongs end is =
+    let here : IsEnd o Usage = subst (IsEnd o) is end in
+    let t = has_text chosen m o Usage belongs (λ e. cc) here in
+    text_usage chosen m t.0 t.1
+
+ended_no_file : (chosen : Option Chosen) (m : Option Folder) (o : Outcome) (status : Status) → BelongsTo chosen m o → IsEnd o status → inputs_of chosen ≡ [] → (status ≢ NoFile) × (status ≢ ReadFault)
+ended_no_file chosen m o status belongs end none = (
+  (λ is. let here : IsEnd o NoFile = subst (IsEnd o) is end in let t = has_text chosen m o NoFile belongs (λ e. cc) here in text_no_file chosen m t.0 none t.1),
+  (λ is. let here : IsEnd o ReadFault = subst (IsEnd o) is end in here),
+)
+
+-- What is promised.
+
+keeps_ended : (chosen : Option Chosen) (before after : Scene) (status : Status) → (is_usage chosen ≡ true → (status ≡ Usage) ⊎ (status ≡ NoMemory)) → Comes (inputs_of chosen) (IsOwnText chosen) (output_of chosen) (IsOutcome chosen) before after status
+    → IsEnded (inputs_of chosen) (IsOwnText chosen) (output_of chosen) (IsOutcome chosen) before after status → Keeps chosen before after status
+keeps_ended chosen before after status only c e =
+    let o = e.0 in
+    let belongs : BelongsTo chosen before.files.folder o = e.1 in
+    let ends : Ends o before after status = e.2 in
+    record {
+      answer = answer chosen before after o status belongs.outcome ends.answer (λ h. let put = ends.fault_line h in fault_cause (written_name o.output) before after put.0 put.1);
+      done_folder = λ h. the_outcome chosen _ _ o belongs.outcome (ends.done_folder h);
+      done_text = λ h. the_outcome chosen _ _ o belongs.outcome (ends.done_text h);
+      refused_folder = λ h. or_same (λ late. (late.0, the_outcome chosen _ _ o belongs.outcome (late.1, late.2))) (ends.refused_folder h);
+      refused_text = λ h. or_same (λ late. (late.0, the_outcome chosen _ _ o belongs.outcome (late.1, late.2))) (ends.refused_text h);
+      text_after_file = or_same (the_outcome chosen _ _ o belongs.outcome) ends.text_after_file;
+      fault_after_file = λ h. or_same (the_outcome chosen _ _ o belongs.outcome) (ends.fault_after_file h);
+      refused_line = λ h. puts chosen before after o status belongs h ends.answer ends.refused_line ends.fault_line;
+      usage = ended_usage chosen before.files.folder o status belongs ends.answer;
+      usage_only = only;
+      no_file = c.missed;
+      no_reads = ended_no_file chosen before.files.folder o status belongs ends.answer;
+      bytes_read = c.asked;
+      no_bytes = c.unasked;
+    }
+
+keeps_stopped : (chosen : Option Chosen) (before after : Scene) (status : Status) → Comes (inputs_of chosen) (IsOwnText chosen) (output_of chosen) (IsOutcome chosen) before after status → IsStopped before after status → Keeps chosen before after status
+keeps_stopped chosen before after status c stopped =
+    let unasked = c.unasked in
+    subst (Keeps chosen before after) (sym stopped.is_memory) (record {
       answer = tt;
       done_folder = λ h. cc;
       done_text = λ h. cc;
-      refused_folder = λ _. inl stopped.same_folder;
-      refused_text = λ _. inl stopped.same_text;
-      text_after_file = inl stopped.same_text;
+      refused_folder = λ _. inl stopped.untouched.folder;
+      refused_text = λ _. inl stopped.untouched.out;
+      text_after_file = inl stopped.untouched.out;
       fault_after_file = λ h. cc;
-      refused_line = λ _. (line_of (codes "no memory"), refl, stopped.line);
+      refused_line = λ _. (codes "no memory", refl, stopped.line);
+      usage = λ h. cc;
+      usage_only = λ _. inr refl;
       no_file = λ h. cc;
+      no_reads = λ _. ((λ h. cc), (λ h. cc));
+      bytes_read = λ h. cc;
+      no_bytes = unasked;
     })
 
-pub keeps_no_memory : (chosen : Option Chosen) (m : Option Folder) (misses reads writes outs : Type 0) (out err new_err : Option (List ℕ)) (cause : Type 0) (status : Status) → status ≡ NoMemory → GainsLine err new_err (line_of (codes "no memory")) cause
-    → Keeps chosen m m misses reads writes outs out out err new_err cause status
-keeps_no_memory chosen m misses reads writes outs out err new_err cause status is put =
-    keeps_stopped chosen m m misses reads writes outs out out err new_err cause status (record { is_memory = is; same_folder = refl; same_text = refl; line = put })
-
--- a read that failed, of an input file before which none is at fault
-pub keeps_read_fault : (chosen : Option Chosen) (m : Option Folder) (file : List ℕ) (misses reads writes outs : Type 0) (out err new_err : Option (List ℕ)) (cause : Type 0) (status : Status) → IsReached (inputs_of chosen) m file → reads
-    → status ≡ ReadFault → GainsLine err new_err (line_of (read_fault_text file)) cause → Keeps chosen m m misses reads writes outs out out err new_err cause status
-keeps_read_fault chosen m file misses reads writes outs out err new_err cause status reached rose is put =
-    subst (λ (s : Status). Keeps chosen m m misses reads writes outs out out err new_err cause s) (sym is) (record {
-      answer = rose;
+keeps_cut : (chosen : Option Chosen) (before after : Scene) (status : Status) → (is_usage chosen ≡ true → (status ≡ Usage) ⊎ (status ≡ NoMemory)) → Comes (inputs_of chosen) (IsOwnText chosen) (output_of chosen) (IsOutcome chosen) before after status
+    → IsCutShort (inputs_of chosen) before after status → Keeps chosen before after status
+keeps_cut chosen before after status only c cut =
+    let unasked = c.unasked in
+    let usual = subst (λ (s : Status). is_usage chosen ≡ true → (s ≡ Usage) ⊎ (s ≡ NoMemory)) cut.is_fault only in
+    subst (Keeps chosen before after) (sym cut.is_fault) (record {
+      answer = cut.failed;
       done_folder = λ h. cc;
       done_text = λ h. cc;
-      refused_folder = λ _. inl refl;
-      refused_text = λ _. inl refl;
-      text_after_file = inl refl;
+      refused_folder = λ _. inl cut.untouched.folder;
+      refused_text = λ _. inl cut.untouched.out;
+      text_after_file = inl cut.untouched.out;
       fault_after_file = λ h. cc;
-      refused_line = λ _. (line_of (read_fault_text file), (file, reached, refl), put);
+      refused_line = λ _. (_, (cut.input, cut.reached, refl), cut.line);
+      usage = λ h. cc;
+      usage_only = usual;
       no_file = λ h. cc;
+      no_reads = λ none. absurd (none_reached (inputs_of chosen) before.files.folder cut.input none cut.reached);
+      bytes_read = λ h. cc;
+      no_bytes = unasked;
     })
 
--- a refusal that changes nothing ends so
-pub ends_refused : (m : Option Folder) (text : List ℕ) (writes outs : Type 0) (out err new_err : Option (List ℕ)) (cause : Type 0) (status : Status) → status ≢ Done → status ≢ WriteFault
-    → IsEnd (refusal status text m) status → IsEndLine (refusal status text m) (line_of text) status → GainsLine err new_err (line_of text) cause
-    → Ends (refusal status text m) m m writes outs out out err new_err cause status
-ends_refused m text writes outs out err new_err cause status not_done not_write end line put = record {
-  answer = end;
-  done_folder = λ h. absurd (not_done h);
-  done_text = λ h. absurd (not_done h);
-  refused_folder = λ _. inl refl;
-  refused_text = λ _. inl refl;
-  text_after_file = inl refl;
-  fault_after_file = λ h. absurd (not_write h);
-  refused_line = λ _ _. (line_of text, line, put);
-  fault_line = λ h. absurd (not_write h);
-}
+pub keeps_only : (chosen : Option Chosen) (before after : Scene) (status : Status) → (is_usage chosen ≡ true → (status ≡ Usage) ⊎ (status ≡ NoMemory)) → Comes (inputs_of chosen) (IsOwnText chosen) (output_of chosen) (IsOutcome chosen) before after status → Keeps chosen before after status
+keeps_only chosen before after status only c =
+    elim c.ends as (λ _. Keeps chosen before after status) [ inl e ↦ keeps_ended chosen before after status only c e | inr (inl stopped) ↦ keeps_stopped chosen before after status c stopped | inr (inr cut) ↦ keeps_cut chosen before after status only c cut ]
 
--- a refusal with a text of its status belongs to the words where it is their outcome
-pub refusal_belongs : (chosen : Option Chosen) (m : Option Folder) (text : List ℕ) (status : Status) → (AreTold (inputs_of chosen) m → IsOutcome chosen m (refusal status text m)) → IsText chosen m text status → Belongs chosen m (refusal status text m)
-refusal_belongs chosen m text status is told = record { outcome = is; named = λ output e. cc; told = inr (text, told, refl) }
+not_usage : (chosen : Option Chosen) (status : Status) → is_usage chosen ≡ false → is_usage chosen ≡ true → (status ≡ Usage) ⊎ (status ≡ NoMemory)
+not_usage chosen status h k = absurd cc
 
--- the outcome is refused
-pub keeps_refusal : (chosen : Option Chosen) (m : Option Folder) (text : List ℕ) (misses reads writes outs : Type 0) (out err new_err : Option (List ℕ)) (cause : Type 0) (status : Status)
-    → (AreTold (inputs_of chosen) m → IsOutcome chosen m (refusal status text m)) → IsText chosen m text status → status ≢ Done → status ≢ WriteFault → (status ≡ NoFile → misses)
-    → IsEnd (refusal status text m) status → IsEndLine (refusal status text m) (line_of text) status → GainsLine err new_err (line_of text) cause
-    → Keeps chosen m m misses reads writes outs out out err new_err cause status
-keeps_refusal chosen m text misses reads writes outs out err new_err cause status is told not_done not_write no_file end line put =
-    keeps chosen m m (refusal status text m) misses reads writes outs out out err new_err cause status (refusal_belongs chosen m text status is told) no_file
-    (ends_refused m text writes outs out err new_err cause status not_done not_write end line put)
+-- A command that is there keeps what is promised.
+pub keeps : (chosen : Option Chosen) (before after : Scene) (status : Status) → is_usage chosen ≡ false → Comes (inputs_of chosen) (IsOwnText chosen) (output_of chosen) (IsOutcome chosen) before after status → Keeps chosen before after status
+keeps chosen before after status there c = keeps_only chosen before after status (not_usage chosen status there) c
 
--- words that are out of the grammar
-pub keeps_usage : (chosen : Option Chosen) (m : Option Folder) (misses reads writes outs : Type 0) (out err new_err : Option (List ℕ)) (cause : Type 0) (status : Status) → is_usage chosen ≡ true → status ≡ Usage → GainsLine err new_err (line_of (codes "usage")) cause
-    → Keeps chosen m m misses reads writes outs out out err new_err cause status
-keeps_usage chosen m misses reads writes outs out err new_err cause status asked is put =
-    subst (λ (s : Status). Keeps chosen m m misses reads writes outs out out err new_err cause s) (sym is)
-    (keeps_refusal chosen m (codes "usage") misses reads writes outs out err new_err cause Usage (λ _. usage_outcome chosen m asked) refl (λ h. cc) (λ h. cc) (λ h. cc) refl refl put)
+-- words that are out of the grammar, or name a command that isn't there yet
+usage_text : (chosen : Option Chosen) → is_usage chosen ≡ true → IsOwnText chosen (codes "usage") Usage
+usage_text None h = (refl, refl)
+usage_text (Some (Cs res file)) h = cc
+usage_text (Some (Rll lon lat file)) h = absurd cc
+usage_text (Some (Ico res dual file)) h = absurd cc
+usage_text (Some (Overlap a b out workers)) h = absurd cc
+usage_text (Some (OfflineMap in_mesh out_mesh ov_mesh out_map)) h = (refl, refl)
+usage_text (Some (Apply map var in_data out_data masked)) h = (refl, refl)
+usage_text (Some (SelfRun n workers)) h = (refl, refl)
+usage_text (Some (Coverage a b)) h = (refl, refl)
+usage_text (Some (Check file workers)) h = (refl, refl)
 
--- the output file of a mesh has the name that was given
-mesh_named : (chosen : Option Chosen) (m : Option Folder) (raw : RawMesh) (file : List ℕ) → output_of chosen ≡ Some file → (output : Output) → (mesh_written raw file m).output ≡ Some output → output_of chosen ≡ Some output.name
-unfolding mesh_output
-mesh_named chosen m raw file is output e = is ∙ ap (λ (o : Option Output). option_map (λ (f : Output). f.name) o) e
+pub keeps_usage : (chosen : Option Chosen) (before after : Scene) (status : Status) → is_usage chosen ≡ true → after.files ≡ before.files → after.out ≡ before.out → status ≡ Usage → PutsText before.err after.err (codes "usage") → Keeps chosen before after status
+keeps_usage chosen before after status asked files out is put =
+    keeps_only chosen before after status (λ _. inl is)
+    (comes_own (inputs_of chosen) (IsOwnText chosen) (output_of chosen) (IsOutcome chosen) before after (codes "usage") Usage status (usage_outcome chosen before.files.folder asked) (usage_text chosen asked) tt (λ h. cc) files out is put)
 
--- a mesh that is written
-pub keeps_mesh : (chosen : Option Chosen) (m new : Option Folder) (raw : RawMesh) (file : List ℕ) (misses reads writes outs : Type 0) (old_out new_out old_err new_err : Option (List ℕ)) (cause : Type 0) (status : Status)
-    → IsOutcome chosen m (mesh_written raw file m) → output_of chosen ≡ Some file → status ≢ NoFile
-    → Ends (mesh_written raw file m) m new writes outs old_out new_out old_err new_err cause status → Keeps chosen m new misses reads writes outs old_out new_out old_err new_err cause status
-keeps_mesh chosen m new raw file misses reads writes outs old_out new_out old_err new_err cause status is name no_file ends =
-    keeps chosen m new (mesh_written raw file m) misses reads writes outs old_out new_out old_err new_err cause status
-    (record { outcome = λ _. is; named = mesh_named chosen m raw file name; told = inl refl }) (λ h. absurd (no_file h)) ends
-
--- a mesh that was made and is accepted
-pub keeps_made : (chosen : Option Chosen) (m new : Option Folder) (raw made : RawMesh) (file : List ℕ) (misses reads writes outs : Type 0) (old_out new_out old_err new_err : Option (List ℕ)) (cause : Type 0) (status : Status)
-    → ((o : Outcome) → IsOutcomeOfMade made file m o → IsOutcome chosen m o) → output_of chosen ≡ Some file → raw ≡ made → IsAcceptedMesh made → status ≢ NoFile
-    → Ends (mesh_written raw file m) m new writes outs old_out new_out old_err new_err cause status → Keeps chosen m new misses reads writes outs old_out new_out old_err new_err cause status
-keeps_made chosen m new raw made file misses reads writes outs old_out new_out old_err new_err cause status outcome name same accepted no_file ends =
-    keeps_mesh chosen m new raw file misses reads writes outs old_out new_out old_err new_err cause status
-    (outcome _ (subst (λ (r : RawMesh). IsOutcomeOfMade made file m (mesh_written r file m)) (sym same) (accepted_made made file m accepted))) name no_file ends
-
--- a generator that gave no mesh
-pub keeps_refused : (chosen : Option Chosen) (m : Option Folder) (refused : GenFault) (misses reads writes outs : Type 0) (out err new_err : Option (List ℕ)) (cause : Type 0) (status : Status)
-    → (refused ≡ FaultOfMade NoMeshMemory → ⊥) → ((fault : MeshFault) → refused ≡ FaultOfMade fault → IsOutcome chosen m (fault_of_made fault m))
-    → status ≡ status_of_made refused → GainsLine err new_err (line_of (made_text refused)) cause → Keeps chosen m m misses reads writes outs out out err new_err cause status
-keeps_refused chosen m (FaultOfMade fault) misses reads writes outs out err new_err cause status outer outcome is put =
-    subst (λ (s : Status). Keeps chosen m m misses reads writes outs out out err new_err cause s) (sym is)
-    (keeps_refusal chosen m (mesh_fault_text (codes "generated") fault) misses reads writes outs out err new_err cause Mesh (λ _. outcome fault refl)
-    (codes "generated", fault, inr refl, (λ e. outer (ap FaultOfMade e)), refl) (λ h. cc) (λ h. cc) (λ h. cc) refl refl put)
-keeps_refused chosen m NoMadeMemory misses reads writes outs out err new_err cause status outer outcome is put =
-    keeps_no_memory chosen m misses reads writes outs out err new_err cause status is put
-
--- a count that rose later rose in the whole call
-pub ends_later : (o : Outcome) (m new : Option Folder) (writes later outs : Type 0) (old_out new_out old_err new_err : Option (List ℕ)) (cause : Type 0) (status : Status) → (later → writes)
-    → Ends o m new later outs old_out new_out old_err new_err cause status → Ends o m new writes outs old_out new_out old_err new_err cause status
-ends_later o m new writes later outs old_out new_out old_err new_err cause status rose ends = record {
-  answer = ends.answer;
-  done_folder = ends.done_folder;
-  done_text = ends.done_text;
-  refused_folder = ends.refused_folder;
-  refused_text = ends.refused_text;
-  text_after_file = ends.text_after_file;
-  fault_after_file = λ h. either rose (ends.fault_after_file h);
-  refused_line = ends.refused_line;
-  fault_line = λ h. let put = ends.fault_line h in (put.0, put.1, put.2, fault_later put.0.name put.1 writes later outs rose put.3, put.4);
-}
+-- memory ran out before a device was called
+pub keeps_no_memory : (chosen : Option Chosen) (before after : Scene) (status : Status) → after.files ≡ before.files → after.out ≡ before.out → status ≡ NoMemory → PutsText before.err after.err (codes "no memory") → Keeps chosen before after status
+keeps_no_memory chosen before after status files out is put =
+    keeps_only chosen before after status (λ _. inr is) (comes_stopped (inputs_of chosen) (IsOwnText chosen) (output_of chosen) (IsOutcome chosen) before after status files out is put)

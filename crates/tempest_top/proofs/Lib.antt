@@ -1,9 +1,10 @@
 mod AcceptedMesh
+mod Coming
+mod Endings
 mod Gaining
 mod Keeping
-mod MeshFiles
 mod OnePair
-mod PairEnds
-mod Pieces
-mod Written
 pub mod Outcomes
+mod Pieces
+mod TwoMeshes
+mod Written

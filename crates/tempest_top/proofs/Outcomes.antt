@@ -1,22 +1,23 @@
 -- A command has at most one outcome, and which outcomes there are.
-use Rattle.std.proofs.Common.{◌≡◌, ◌∙◌, ℕ, List, length, true, Option, Some, None, codes, refl, sym, ap, subst, inl, inr, arith}
+use Rattle.std.proofs.Common.{◌≡◌, ◌∙◌, ℕ, List, length, true, Option, Some, None, refl, sym, ap, subst, inl, inr, arith}
 use Rattle.vec_exact.specs.declared.RawMesh.{RawMesh}
 use Rattle.remap_io.specs.Folder.{Folder}
 use Rattle.nc_write.specs.declared.NcDoc.{NcDoc}
 use Rattle.mesh_check.specs.declared.faults.MeshFault.{MeshFault}
 use Rattle.mesh_check.specs.Mesh.{IsAcceptedMesh}
 use Rattle.mesh_check.proofs.FirstFaults.{same_first_fault, no_first_fault}
-use Rattle.mesh_load.specs.declared.MeshRefusal.{MeshRefusal}
+use Rattle.remap_load.specs.declared.refusal.FileRefusal.{FileRefusal}
+use Rattle.remap_load.proofs.Contents.{IsLawful, one_content, one_refusal, not_both}
+use Rattle.mesh_load.proofs.OneMesh.{mesh_law}
 use Rattle.clip.specs.Overlaps.{OverlapParts}
 use Rattle.remap_files.specs.OverlapDocument.{overlap_document}
 use Rattle.gen_ico.proofs.One.{one_made as one_icosahedral}
 use Rattle.command_line.specs.declared.choices.Chosen.{Chosen}
 use Rattle.command_line.specs.declared.choices.Chosen.TheVariants.{Cs, Rll, Ico, Overlap, OfflineMap, Apply, SelfRun, Coverage, Check}
-use Rattle.tempest_top.specs.declared.status.Status.TheVariants.{Usage, Limit}
+use Rattle.tempest_top.specs.declared.status.Status.TheVariants.{Limit}
 use Rattle.tempest_top.specs.Lines.{pieces_text}
-use Rattle.tempest_top.specs.Faults.{mesh_refusal_text, status_of_mesh, too_many_pieces_text}
-use Rattle.tempest_top.specs.Outcome.{Outcome, IsOutcome, IsOutcomeOfMade, IsOutcomeOfDocument, IsOutcomeOfPair, AfterMesh, refusal, fault_of_made, mesh_written, is_usage}
-use Rattle.mesh_load.proofs.OneAnswer.{one_mesh, one_refusal, no_refused_mesh}
+use Rattle.tempest_top.specs.Faults.{FileWords, status_of, text_of, mesh_words, too_many_pieces_text}
+use Rattle.tempest_top.specs.Outcome.{Outcome, IsOutcome, IsOutcomeOfMade, IsOutcomeOfDocument, IsOutcomeOfPair, AfterFile, refusal, fault_of_made, mesh_written, is_usage, usage}
 use Rattle.tempest_top.proofs.OnePair.{one_count, one_overlap, count_of_overlap}
 
 -- what two outcomes are equal to
@@ -48,13 +49,15 @@ one_pair source target file m o p (inl a) (inr b) = absurd (omega (arith, a.2, b
 one_pair source target file m o p (inr a) (inl b) = absurd (omega (arith, a.2, b.2, count_of_overlap source target a.0 b.0 a.1 b.1))
 one_pair source target file m o p (inr a) (inr b) = one_document _ _ file m o p a.3 (subst (of_overlap file m p) (one_overlap source target b.0 a.0 b.1 a.1) b.3)
 
--- and so has what follows a mesh file, where what follows its mesh has
-one_after : (m : Option Folder) (file : List ℕ) (next : RawMesh → Outcome → Type 0) → ((mesh : RawMesh) (o p : Outcome) → next mesh o → next mesh p → o ≡ p) → (o p : Outcome) → AfterMesh m file next o → AfterMesh m file next p → o ≡ p
-one_after None file next one o p a b = absurd a
-one_after (Some m) file next one o p (inl a) (inl b) = a.2 ∙ ap (λ (why : MeshRefusal). refusal (status_of_mesh why) (mesh_refusal_text file why) (Some m)) (one_refusal m file a.0 b.0 a.1 b.1) ∙ sym b.2
-one_after (Some m) file next one o p (inl a) (inr b) = absurd (no_refused_mesh m file b.0 a.0 b.1 a.1)
-one_after (Some m) file next one o p (inr a) (inl b) = absurd (no_refused_mesh m file a.0 b.0 a.1 b.1)
-one_after (Some m) file next one o p (inr a) (inr b) = one a.0 o p a.2 (subst (λ (mesh : RawMesh). next mesh p) (one_mesh m file b.0 a.0 b.1 a.1) b.2)
+-- and so has what follows a file, where what follows its content has
+pub one_after : {A C : Type 0} (words : FileWords A C) → IsLawful words.kind → (m : Option Folder) (file : List ℕ) (next : A → Outcome → Type 0) → ((content : A) (o p : Outcome) → next content o → next content p → o ≡ p)
+    → (o p : Outcome) → AfterFile words m file next o → AfterFile words m file next p → o ≡ p
+one_after words law None file next one o p a b = absurd a
+one_after {C = C} words law (Some m) file next one o p (inl a) (inl b) =
+    a.2 ∙ ap (λ (why : FileRefusal C). refusal (status_of words why) (text_of words file why) (Some m)) (one_refusal words.kind law m file a.0 b.0 a.1 b.1) ∙ sym b.2
+one_after words law (Some m) file next one o p (inl a) (inr b) = absurd (not_both words.kind law m file b.0 a.0 b.1 a.1)
+one_after words law (Some m) file next one o p (inr a) (inl b) = absurd (not_both words.kind law m file a.0 b.0 a.1 b.1)
+one_after {A = A} words law (Some m) file next one o p (inr a) (inr b) = one a.0 o p a.2 (subst (λ (content : A). next content p) (one_content words.kind law m file b.0 a.0 b.1 a.1) b.2)
 
 pub one_outcome : (chosen : Option Chosen) (m : Option Folder) (o p : Outcome) → IsOutcome chosen m o → IsOutcome chosen m p → o ≡ p
 one_outcome None m o p e f = same o p _ e f
@@ -62,8 +65,8 @@ one_outcome (Some (Cs res file)) m o p e f = same o p _ e f
 one_outcome (Some (Rll lon lat file)) m o p e f = one_made _ file m o p e f
 one_outcome (Some (Ico res dual file)) m o p e f = one_made e.0 file m o p e.2 (subst (λ (raw : RawMesh). IsOutcomeOfMade raw file m p) (one_icosahedral res dual f.0 e.0 f.1 e.1) f.2)
 one_outcome (Some (Overlap a b out workers)) m o p e f =
-    one_after m a (λ source. AfterMesh m b (λ target. IsOutcomeOfPair source target out m))
-    (λ source. one_after m b (λ target. IsOutcomeOfPair source target out m) (λ target. one_pair source target out m)) o p e f
+    one_after mesh_words mesh_law m a (λ source. AfterFile mesh_words m b (λ target. IsOutcomeOfPair source target out m))
+    (λ source. one_after mesh_words mesh_law m b (λ target. IsOutcomeOfPair source target out m) (λ target. one_pair source target out m)) o p e f
 one_outcome (Some (OfflineMap in_mesh out_mesh ov_mesh out_map)) m o p e f = same o p _ e f
 one_outcome (Some (Apply map var in_data out_data masked)) m o p e f = same o p _ e f
 one_outcome (Some (SelfRun n workers)) m o p e f = same o p _ e f
@@ -75,7 +78,7 @@ pub accepted_made : (raw : RawMesh) (file : List ℕ) (m : Option Folder) → Is
 accepted_made raw file m accepted = inr ((λ fault first. no_first_fault raw fault accepted first), refl)
 
 -- the outcome of words that are out of the grammar, or name a command that isn't there yet
-pub usage_outcome : (chosen : Option Chosen) (m : Option Folder) → is_usage chosen ≡ true → IsOutcome chosen m (refusal Usage (codes "usage") m)
+pub usage_outcome : (chosen : Option Chosen) (m : Option Folder) → is_usage chosen ≡ true → IsOutcome chosen m (usage m)
 usage_outcome None m h = refl
 usage_outcome (Some (Cs res file)) m h = cc
 usage_outcome (Some (Rll lon lat file)) m h = absurd cc

@@ -9,8 +9,15 @@ use Rattle.mesh_check.specs.declared.faults.MeshFault.TheVariants.{TooManyNodes,
 use Rattle.exodus_mesh.specs.declared.ids.NameFault.{NameFault}
 use Rattle.exodus_mesh.specs.declared.ids.NameFault.TheVariants.{Missing, Shape, Kind, NoMemory as NoNameMemory}
 use Rattle.exodus_mesh.specs.Names.{name_of}
-use Rattle.mesh_load.specs.declared.MeshRefusal.{MeshRefusal}
-use Rattle.mesh_load.specs.declared.MeshRefusal.TheVariants.{NoFile as NotThere, ReadFault as NotRead, TooLong, Format as BadHeader, Names as BadNames, Mesh as BadMesh, NoMemory as NoFileMemory}
+use Rattle.vec_exact.specs.declared.RawMesh.{RawMesh}
+use Rattle.remap_load.specs.declared.fault.LoadFault.{LoadFault}
+use Rattle.remap_load.specs.declared.fault.LoadFault.TheVariants.{Absent, Failed, TooLong, Format as BadHeader, NoMemory as NoFileMemory}
+use Rattle.remap_load.specs.declared.refusal.FileRefusal.{FileRefusal}
+use Rattle.remap_load.specs.declared.refusal.FileRefusal.TheVariants.{Load, Content}
+use Rattle.remap_load.specs.Kinds.{FileKind}
+use Rattle.mesh_load.specs.declared.MeshFileFault.{MeshFileFault}
+use Rattle.mesh_load.specs.declared.MeshFileFault.TheVariants.{Names as BadNames, Mesh as BadMesh}
+use Rattle.mesh_load.specs.MeshFile.{mesh_kind}
 use Rattle.overlap_run.specs.declared.faults.RunFault.{RunFault}
 use Rattle.overlap_run.specs.declared.faults.RunFault.TheVariants.{TooManyPieces, NoMemory as NoRunMemory}
 use Rattle.tempest_top.specs.declared.status.Status.{Status}
@@ -51,9 +58,6 @@ length_text file n = file ++ codes ": " ++ decimal n ++ codes " bytes"
 abbrev pub too_many_pieces_text : ℕ → List ℕ
 too_many_pieces_text n = codes "too many pieces " ++ decimal n
 
-abbrev pub no_file_text : List ℕ → List ℕ
-no_file_text file = codes "no file " ++ file
-
 abbrev pub read_fault_text : List ℕ → List ℕ
 read_fault_text file = codes "read fault on " ++ file
 
@@ -75,21 +79,44 @@ abbrev pub status_of_run : RunFault → Status
 status_of_run (TooManyPieces n) = Limit
 status_of_run NoRunMemory = NoMemory
 
--- why a file gives no mesh
-abbrev pub mesh_refusal_text : List ℕ → MeshRefusal → List ℕ
-mesh_refusal_text name NotThere = no_file_text name
-mesh_refusal_text name NotRead = read_fault_text name
-mesh_refusal_text name (TooLong n) = length_text name n
-mesh_refusal_text name (BadHeader fault) = header_fault_text name fault
-mesh_refusal_text name (BadNames fault) = name_fault_text name [] fault
-mesh_refusal_text name (BadMesh fault) = mesh_fault_text name fault
-mesh_refusal_text name NoFileMemory = codes "no memory"
+-- why a file wasn't loaded
+abbrev pub load_text : List ℕ → LoadFault → List ℕ
+load_text file Absent = codes "no file " ++ file
+load_text file Failed = read_fault_text file
+load_text file (TooLong n) = length_text file n
+load_text file (BadHeader fault) = header_fault_text file fault
+load_text file NoFileMemory = codes "no memory"
 
-abbrev pub status_of_mesh : MeshRefusal → Status
-status_of_mesh NotThere = NoFile
-status_of_mesh NotRead = ReadFault
-status_of_mesh (TooLong n) = Limit
-status_of_mesh (BadHeader fault) = Format
-status_of_mesh (BadNames fault) = Names
-status_of_mesh (BadMesh fault) = Mesh
-status_of_mesh NoFileMemory = NoMemory
+abbrev pub status_of_load : LoadFault → Status
+status_of_load Absent = NoFile
+status_of_load Failed = ReadFault
+status_of_load (TooLong n) = Limit
+status_of_load (BadHeader fault) = Format
+status_of_load NoFileMemory = NoMemory
+
+-- A kind of file, and the status and the text of its own faults.
+pub record FileWords (A C : Type 0) : Type 1 where
+  pub kind : FileKind A C
+  pub status : C → Status
+  pub text : List ℕ → C → List ℕ
+
+-- the status of the refusal of a file, and its text
+abbrev pub status_of : {A C : Type 0} → FileWords A C → FileRefusal C → Status
+status_of words (Load fault) = status_of_load fault
+status_of words (Content fault) = words.status fault
+
+abbrev pub text_of : {A C : Type 0} → FileWords A C → List ℕ → FileRefusal C → List ℕ
+text_of words file (Load fault) = load_text file fault
+text_of words file (Content fault) = words.text file fault
+
+-- why a file holds no mesh
+abbrev pub status_of_mesh_file : MeshFileFault → Status
+status_of_mesh_file (BadNames fault) = Names
+status_of_mesh_file (BadMesh fault) = Mesh
+
+abbrev pub mesh_file_text : List ℕ → MeshFileFault → List ℕ
+mesh_file_text file (BadNames fault) = name_fault_text file [] fault
+mesh_file_text file (BadMesh fault) = mesh_fault_text file fault
+
+abbrev pub mesh_words : FileWords RawMesh MeshFileFault
+mesh_words = record { kind = mesh_kind; status = status_of_mesh_file; text = mesh_file_text }

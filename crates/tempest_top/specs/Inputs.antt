@@ -3,9 +3,12 @@ use Rattle.std.specs.Prelude.{◌≡◌, ◌⊎◌, ℕ, List, [], ◌∷◌, Op
 use Rattle.std.specs.List.{sum_by}
 use Rattle.vec_exact.specs.declared.RawMesh.{RawMesh}
 use Rattle.remap_io.specs.Folder.{Folder}
-use Rattle.mesh_load.specs.MeshFile.{IsMeshFile, mesh_cost}
+use Rattle.remap_load.specs.declared.refusal.FileRefusal.{FileRefusal}
+use Rattle.remap_load.specs.Kinds.{IsFile, IsToldRefusal, file_cost}
 use Rattle.command_line.specs.declared.choices.Chosen.{Chosen}
 use Rattle.command_line.specs.declared.choices.Chosen.TheVariants.{Cs, Rll, Ico, Overlap, OfflineMap, Apply, SelfRun, Coverage, Check}
+use Rattle.tempest_top.specs.declared.status.Status.{Status}
+use Rattle.tempest_top.specs.Faults.{FileWords, status_of, text_of, mesh_words}
 
 -- an input file, by what it is to hold
 pub data Input : Type 0 where
@@ -17,12 +20,33 @@ name_of_input (MeshFile name) = name
 
 -- the file holds it
 abbrev pub IsGood : Folder → Input → Type 0
-IsGood m (MeshFile name) = (mesh : RawMesh) × IsMeshFile m name mesh
+IsGood m (MeshFile name) = (mesh : RawMesh) × IsFile mesh_words.kind m name mesh
 
--- the input files of a command, in the order in which they are dealt with
+-- how many bytes are asked for at most where it does
+abbrev pub cost_of : Folder → Input → ℕ
+cost_of m (MeshFile name) = file_cost mesh_words.kind m name
+
+-- the text and the status of a refusal of a file of a kind
+abbrev pub IsFileText : {A C : Type 0} → FileWords A C → List ℕ → List ℕ → Status → Type 0
+IsFileText {C = C} words name text status =
+    (why : FileRefusal C) × IsToldRefusal words.kind why × (status ≡ status_of words why) × (text ≡ text_of words name why)
+
+-- the same of an input file
+abbrev pub IsInputText : Input → List ℕ → Status → Type 0
+IsInputText (MeshFile name) text status = IsFileText mesh_words name text status
+
+-- the input files of a command, in the order in which they are dealt with; a command that isn't there yet reads none
 abbrev pub inputs_of : Option Chosen → List Input
+inputs_of None = []
+inputs_of (Some (Cs res file)) = []
+inputs_of (Some (Rll lon lat file)) = []
+inputs_of (Some (Ico res dual file)) = []
 inputs_of (Some (Overlap a b out workers)) = MeshFile a ∷ MeshFile b ∷ []
-inputs_of chosen = []
+inputs_of (Some (OfflineMap in_mesh out_mesh ov_mesh out_map)) = []
+inputs_of (Some (Apply map var in_data out_data masked)) = []
+inputs_of (Some (SelfRun n workers)) = []
+inputs_of (Some (Coverage a b)) = []
+inputs_of (Some (Check file workers)) = []
 
 -- the name of the output file of a command that has one
 abbrev pub output_of : Option Chosen → Option (List ℕ)
@@ -43,16 +67,12 @@ AreTold [] m = ⊤
 AreTold (input ∷ inputs) None = ⊥
 AreTold (input ∷ inputs) (Some m) = ⊤
 
--- An input file of this name is dealt with: it is the first one, or the first one isn't at fault, where the folder is told,
--- and the name is dealt with among the others.
-abbrev pub IsReached : List Input → Option Folder → List ℕ → Type 0
-IsReached [] m name = ⊥
-IsReached (input ∷ inputs) m name = (name_of_input input ≡ name) ⊎ (IfSome m (λ f. IsGood f input) × IsReached inputs m name)
+-- An input file is dealt with: it is the first one, or the first one isn't at fault, where the folder is told, and it is dealt
+-- with among the others.
+abbrev pub IsReached : List Input → Option Folder → Input → Type 0
+IsReached [] m input = ⊥
+IsReached (first ∷ inputs) m input = (first ≡ input) ⊎ (IfSome m (λ f. IsGood f first) × IsReached inputs m input)
 
--- how many bytes are asked for at most where an input file isn't at fault
-abbrev pub cost_of : Folder → Input → ℕ
-cost_of m (MeshFile name) = mesh_cost m name
-
--- and where none of them is
+-- how many bytes are asked for at most where no input file is at fault
 abbrev pub reading_cost : Folder → List Input → ℕ
 reading_cost m inputs = sum_by (cost_of m) inputs

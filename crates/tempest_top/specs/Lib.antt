@@ -6,3 +6,4 @@ pub mod Lines
 pub mod NameParts
 pub mod Outcome
 pub mod Promises
+pub mod Scene

@@ -1,6 +1,8 @@
 -- The texts of the program.
 use Rattle.std.specs.Prelude.{◌≡◌, ◌⊎◌, ℕ, List, ◌++◌, length, take, codes, decimal, Option, Some, None}
 use Rattle.vec_exact.specs.declared.RawMesh.{RawMesh}
+use Rattle.remap_io.specs.Causes.{Rose}
+use Rattle.remap_io.specs.Outside.{SinkSeen}
 
 -- what is put to the output for a mesh that was made
 abbrev pub mesh_text : RawMesh → List ℕ
@@ -18,3 +20,11 @@ line_of text = codes "tempest: " ++ text ++ codes "\n"
 abbrev pub GainsLine : Option (List ℕ) → Option (List ℕ) → List ℕ → Type 0 → Type 0
 GainsLine None new line cause = new ≡ None
 GainsLine (Some held) new line cause = (new ≡ Some (held ++ line)) ⊎ (((n : ℕ) × (new ≡ Some (held ++ take n line))) × cause)
+
+-- a put that was refused is counted
+abbrev pub IsPutRefused : SinkSeen → SinkSeen → Type 0
+IsPutRefused old new = Rose old.faults new.faults ⊎ Rose old.refusals new.refusals
+
+-- The line of this text went out, or a prefix of it, and then a refused put is counted.
+abbrev pub PutsText : SinkSeen → SinkSeen → List ℕ → Type 0
+PutsText old new text = GainsLine old.contents new.contents (line_of text) (IsPutRefused old new)

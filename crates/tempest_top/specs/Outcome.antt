@@ -10,18 +10,18 @@ use Rattle.gen_cs.specs.CubedSphere.{cubed_sphere}
 use Rattle.gen_rll.specs.LatitudeLongitude.{latitude_longitude}
 use Rattle.gen_ico.specs.Made.{IsMade}
 use Rattle.exodus_mesh.specs.MeshDocument.{mesh_document}
-use Rattle.mesh_load.specs.declared.MeshRefusal.{MeshRefusal}
-use Rattle.mesh_load.specs.MeshFile.{IsMeshFile, IsRefusedMesh}
+use Rattle.remap_load.specs.declared.refusal.FileRefusal.{FileRefusal}
+use Rattle.remap_load.specs.Kinds.{IsFile, IsRefusedFile}
 use Rattle.clip.specs.Overlaps.{OverlapParts}
 use Rattle.overlap_run.specs.Pairs.{IsPairCount}
 use Rattle.overlap_run.specs.Whole.{IsOverlapOf}
 use Rattle.remap_files.specs.OverlapDocument.{overlap_document}
 use Rattle.command_line.specs.declared.choices.Chosen.{Chosen}
-use Rattle.command_line.specs.declared.choices.Chosen.TheVariants.{Cs, Rll, Ico, Overlap}
+use Rattle.command_line.specs.declared.choices.Chosen.TheVariants.{Cs, Rll, Ico, Overlap, OfflineMap, Apply, SelfRun, Coverage, Check}
 use Rattle.tempest_top.specs.declared.status.Status.{Status}
 use Rattle.tempest_top.specs.declared.status.Status.TheVariants.{Done, Usage, Mesh, Limit}
 use Rattle.tempest_top.specs.Lines.{mesh_text, pieces_text, line_of}
-use Rattle.tempest_top.specs.Faults.{mesh_fault_text, mesh_refusal_text, status_of_mesh, length_text, too_many_pieces_text}
+use Rattle.tempest_top.specs.Faults.{FileWords, status_of, text_of, mesh_words, mesh_fault_text, length_text, too_many_pieces_text}
 use Rattle.tempest_top.specs.Inputs.{inputs_of, AreTold}
 
 -- The output file of a command: its name and its new bytes.
@@ -45,6 +45,10 @@ refusal status text m = record { status = status; output = None; folder = m; tex
 abbrev pub written : Output → List ℕ → Option Folder → Outcome
 written output text m = record { status = Done; output = Some output; folder = option_map (λ f. with_file f output.name output.bytes) m; text = text; line = [] }
 
+-- The command is done, and writes no file: its text is all.
+abbrev pub text_alone : List ℕ → Option Folder → Outcome
+text_alone text m = record { status = Done; output = None; folder = m; text = text; line = [] }
+
 -- the file of a mesh
 unfoldable pub mesh_output : RawMesh → List ℕ → Output
 mesh_output raw name = record { name = name; bytes = file_of (mesh_document raw) }
@@ -63,12 +67,13 @@ IsOutcomeOfMade raw file m o =
     ((fault : MeshFault) × IsFirstMeshFault raw fault × (o ≡ fault_of_made fault m))
     ⊎ (((fault : MeshFault) → IsFirstMeshFault raw fault → ⊥) × (o ≡ mesh_written raw file m))
 
--- A mesh file is dealt with: its refusal is told, or else it is gone on with its mesh. Of a folder that isn't told there is no outcome.
-abbrev pub AfterMesh : Option Folder → List ℕ → (RawMesh → Outcome → Type 0) → Outcome → Type 0
-AfterMesh None file next o = ⊥
-AfterMesh (Some m) file next o =
-    ((why : MeshRefusal) × IsRefusedMesh m file why × (o ≡ refusal (status_of_mesh why) (mesh_refusal_text file why) (Some m)))
-    ⊎ ((mesh : RawMesh) × IsMeshFile m file mesh × next mesh o)
+-- A file is dealt with: its refusal is told, or else it is gone on with what it holds. Of a folder that isn't told there is no
+-- outcome.
+abbrev pub AfterFile : {A C : Type 0} → FileWords A C → Option Folder → List ℕ → (A → Outcome → Type 0) → Outcome → Type 0
+AfterFile words None file next o = ⊥
+AfterFile {A = A} {C = C} words (Some m) file next o =
+    ((why : FileRefusal C) × IsRefusedFile words.kind m file why × (o ≡ refusal (status_of words why) (text_of words file why) (Some m)))
+    ⊎ ((content : A) × IsFile words.kind m file content × next content o)
 
 -- A document is written to a file, unless that would have more than 2,147,483,647 bytes.
 abbrev pub IsOutcomeOfDocument : NcDoc → List ℕ → List ℕ → Option Folder → Outcome → Type 0
@@ -82,24 +87,36 @@ IsOutcomeOfPair source target file m o =
     ((n : ℕ) × IsPairCount source target n × (8388608 < n) × (o ≡ refusal Limit (too_many_pieces_text n) m))
     ⊎ ((overlap : OverlapParts) × IsOverlapOf source target overlap × (length overlap.pieces ≤ 8388608) × IsOutcomeOfDocument (overlap_document overlap) (pieces_text (length overlap.pieces)) file m o)
 
--- The words are out of the grammar, or name a command that the program doesn't have yet.
+-- the words are out of the grammar, or name a command that the program doesn't have yet
 abbrev pub is_usage : Option Chosen → Bool
 is_usage None = true
 is_usage (Some (Cs res file)) = false
 is_usage (Some (Rll lon lat file)) = false
 is_usage (Some (Ico res dual file)) = false
 is_usage (Some (Overlap a b out workers)) = false
-is_usage (Some c) = true
+is_usage (Some (OfflineMap in_mesh out_mesh ov_mesh out_map)) = true
+is_usage (Some (Apply map var in_data out_data masked)) = true
+is_usage (Some (SelfRun n workers)) = true
+is_usage (Some (Coverage a b)) = true
+is_usage (Some (Check file workers)) = true
+
+-- they are refused
+abbrev pub usage : Option Folder → Outcome
+usage m = refusal Usage (codes "usage") m
 
 -- From this command and this folder the program comes to this: the first refusal that stands, else Done. Every cubed sphere is
 -- accepted, so that it isn't tested.
 abbrev pub IsOutcome : Option Chosen → Option Folder → Outcome → Type 0
-IsOutcome None m o = o ≡ refusal Usage (codes "usage") m
+IsOutcome None m o = o ≡ usage m
 IsOutcome (Some (Cs res file)) m o = o ≡ mesh_written (cubed_sphere res) file m
 IsOutcome (Some (Rll lon lat file)) m o = IsOutcomeOfMade (latitude_longitude lon lat) file m o
 IsOutcome (Some (Ico res dual file)) m o = (raw : RawMesh) × IsMade res dual raw × IsOutcomeOfMade raw file m o
-IsOutcome (Some (Overlap a b out workers)) m o = AfterMesh m a (λ source. AfterMesh m b (λ target. IsOutcomeOfPair source target out m)) o
-IsOutcome (Some c) m o = o ≡ refusal Usage (codes "usage") m
+IsOutcome (Some (Overlap a b out workers)) m o = AfterFile mesh_words m a (λ source. AfterFile mesh_words m b (λ target. IsOutcomeOfPair source target out m)) o
+IsOutcome (Some (OfflineMap in_mesh out_mesh ov_mesh out_map)) m o = o ≡ usage m
+IsOutcome (Some (Apply map var in_data out_data masked)) m o = o ≡ usage m
+IsOutcome (Some (SelfRun n workers)) m o = o ≡ usage m
+IsOutcome (Some (Coverage a b)) m o = o ≡ usage m
+IsOutcome (Some (Check file workers)) m o = o ≡ usage m
 
 -- There is an outcome with this, and no other outcome. Of a command with input files it is said only where the folder is told.
 abbrev pub TheOutcome : Option Chosen → Option Folder → (Outcome → Type 0) → Type 0

@@ -1,27 +1,30 @@
 -- What the program promises of a call, against the outcome of its words. In each word the last argument is the status of the call.
-use Rattle.std.specs.Prelude.{◌≡◌, ◌≢◌, ◌⊎◌, ℕ, List, ◌++◌, codes, Option, Some, None, ⊤}
+use Rattle.std.specs.Prelude.{◌≡◌, ◌≢◌, ◌⊎◌, ◌+◌, ◌<◌, ◌≤◌, ℕ, List, [], ◌++◌, codes, Bool, true, Option, Some, None, IfSome, ⊤}
+use Rattle.remap_io.specs.Causes.{Rose}
 use Rattle.remap_io.specs.Folder.{Folder, IsPartlyReplaced}
 use Rattle.remap_io.specs.Held.{Gains, GainsPart}
-use Rattle.nc_format.specs.declared.fault.NcFault.{NcFault}
-use Rattle.nc_format.specs.declared.fault.NcFault.TheVariants.{NoMemory as NoHeaderMemory}
 use Rattle.mesh_check.specs.declared.faults.MeshFault.{MeshFault}
 use Rattle.mesh_check.specs.declared.faults.MeshFault.TheVariants.{NoMemory as NoMeshMemory}
-use Rattle.exodus_mesh.specs.declared.ids.NameFault.{NameFault}
-use Rattle.exodus_mesh.specs.declared.ids.NameFault.TheVariants.{NoMemory as NoNameMemory}
 use Rattle.command_line.specs.declared.choices.Chosen.{Chosen}
+use Rattle.command_line.specs.declared.choices.Chosen.TheVariants.{Cs, Rll, Ico, Overlap, OfflineMap, Apply, SelfRun, Coverage, Check}
 use Rattle.tempest_top.specs.declared.status.Status.{Status}
-use Rattle.tempest_top.specs.declared.status.Status.TheVariants.{Done, Usage, NoFile, Format, Names, Mesh, Limit, ReadFault, WriteFault, NoMemory}
-use Rattle.tempest_top.specs.Lines.{line_of, GainsLine}
-use Rattle.tempest_top.specs.Faults.{header_fault_text, name_fault_text, mesh_fault_text, length_text, too_many_pieces_text, no_file_text, read_fault_text}
-use Rattle.tempest_top.specs.Inputs.{inputs_of, output_of, IsReached}
-use Rattle.tempest_top.specs.Outcome.{Output, TheOutcome}
+use Rattle.tempest_top.specs.declared.status.Status.TheVariants.{Done, Usage, NoFile, Mesh, Limit, ReadFault, WriteFault, NoMemory}
+use Rattle.tempest_top.specs.Scene.{Scene}
+use Rattle.tempest_top.specs.Lines.{line_of, PutsText}
+use Rattle.tempest_top.specs.Faults.{mesh_fault_text, length_text, too_many_pieces_text, read_fault_text}
+use Rattle.tempest_top.specs.Inputs.{Input, name_of_input, inputs_of, output_of, IsReached, IsInputText, reading_cost}
+use Rattle.tempest_top.specs.Outcome.{Output, TheOutcome, is_usage}
+
+-- a write failed, of the output file or of the output
+abbrev pub IsWriteFailed : Scene → Scene → Type 0
+IsWriteFailed before after = Rose before.files.write_faults after.files.write_faults ⊎ Rose before.out.faults after.out.faults
 
 -- The status is that of the outcome, or a fault that was counted, or want of memory.
-abbrev pub IsAnswer : Option Chosen → Option Folder → Type 0 → Type 0 → Status → Type 0
-IsAnswer chosen m reads writes ReadFault = reads
-IsAnswer chosen m reads writes WriteFault = TheOutcome chosen m (λ o. o.status ≡ Done) × writes
-IsAnswer chosen m reads writes NoMemory = ⊤
-IsAnswer chosen m reads writes status = TheOutcome chosen m (λ o. o.status ≡ status)
+abbrev pub IsAnswer : Option Chosen → Scene → Scene → Status → Type 0
+IsAnswer chosen before after ReadFault = Rose before.files.faults after.files.faults
+IsAnswer chosen before after WriteFault = TheOutcome chosen before.files.folder (λ o. o.status ≡ Done) × IsWriteFailed before after
+IsAnswer chosen before after NoMemory = ⊤
+IsAnswer chosen before after status = TheOutcome chosen before.files.folder (λ o. o.status ≡ status)
 
 -- a refusal that may come after a write was begun
 abbrev pub IsLate : Status → Type 0
@@ -42,44 +45,83 @@ FolderAfterRefusal chosen old new status = (new ≡ old) ⊎ (IsLate status × T
 abbrev pub TextAfterRefusal : Option Chosen → Option Folder → Option (List ℕ) → Option (List ℕ) → Status → Type 0
 TextAfterRefusal chosen m old new status = (new ≡ old) ⊎ (IsLate status × TheOutcome chosen m (λ o. (o.status ≡ Done) × GainsPart old new o.text))
 
--- a write fault names what failed: the output file, or the output
-abbrev pub IsWriteFaultLine : Option (List ℕ) → List ℕ → Type 0 → Type 0 → Type 0
-IsWriteFaultLine None line writes outs = ⊥
-IsWriteFaultLine (Some name) line writes outs =
-    ((line ≡ line_of (codes "write fault on " ++ name)) × writes) ⊎ ((line ≡ line_of (codes "write fault on output")) × outs)
+-- the output failed
+abbrev pub IsOutputFaultText : Scene → Scene → List ℕ → Type 0
+IsOutputFaultText before after text = (text ≡ codes "write fault on output") × Rose before.out.faults after.out.faults
 
--- The texts of each status that an outcome can have. They name an input file that is dealt with, the output file, or a mesh that was made.
+-- A write fault names what failed: the output file, if there is one, or the output.
+abbrev pub IsWriteFaultText : Option (List ℕ) → Scene → Scene → List ℕ → Type 0
+IsWriteFaultText None before after text = IsOutputFaultText before after text
+IsWriteFaultText (Some name) before after text =
+    ((text ≡ codes "write fault on " ++ name) × Rose before.files.write_faults after.files.write_faults) ⊎ IsOutputFaultText before after text
+
+-- the words ask for nothing that the program has
+abbrev pub IsUsageText : List ℕ → Status → Type 0
+IsUsageText text status = (status ≡ Usage) × (text ≡ codes "usage")
+
+-- a mesh that was made has a fault
+abbrev pub IsMadeText : List ℕ → Status → Type 0
+IsMadeText text status = (status ≡ Mesh) × ((fault : MeshFault) × (fault ≢ NoMeshMemory) × (text ≡ mesh_fault_text (codes "generated") fault))
+
+-- a file would have more than 2,147,483,647 bytes
+abbrev pub IsLengthText : List ℕ → List ℕ → Status → Type 0
+IsLengthText file text status = (status ≡ Limit) × ((n : ℕ) × (2147483647 < n) × (text ≡ length_text file n))
+
+-- more than 8,388,608 pairs meet
+abbrev pub IsPiecesText : List ℕ → Status → Type 0
+IsPiecesText text status = (status ≡ Limit) × ((n : ℕ) × (8388608 < n) × (text ≡ too_many_pieces_text n))
+
+abbrev pub IsOverlapText : List ℕ → List ℕ → Status → Type 0
+IsOverlapText file text status = IsPiecesText text status ⊎ IsLengthText file text status
+
+-- what a command says besides the refusals of its input files
+abbrev pub IsOwnText : Option Chosen → List ℕ → Status → Type 0
+IsOwnText None text status = IsUsageText text status
+IsOwnText (Some (Cs res file)) text status = ⊥
+IsOwnText (Some (Rll lon lat file)) text status = IsMadeText text status
+IsOwnText (Some (Ico res dual file)) text status = IsMadeText text status
+IsOwnText (Some (Overlap a b out workers)) text status = IsOverlapText out text status
+IsOwnText (Some (OfflineMap in_mesh out_mesh ov_mesh out_map)) text status = IsUsageText text status
+IsOwnText (Some (Apply map var in_data out_data masked)) text status = IsUsageText text status
+IsOwnText (Some (SelfRun n workers)) text status = IsUsageText text status
+IsOwnText (Some (Coverage a b)) text status = IsUsageText text status
+IsOwnText (Some (Check file workers)) text status = IsUsageText text status
+
+-- a text of this status: the refusal of an input file that is dealt with, or one of these texts
+abbrev pub IsTextOf : List Input → (List ℕ → Status → Type 0) → Option Folder → List ℕ → Status → Type 0
+IsTextOf inputs own m text status = ((input : Input) × IsReached inputs m input × IsInputText input text status) ⊎ own text status
+
+-- the texts of each status that an outcome can have
 abbrev pub IsText : Option Chosen → Option Folder → List ℕ → Status → Type 0
-IsText chosen m text Usage = text ≡ codes "usage"
-IsText chosen m text NoFile = (file : List ℕ) × IsReached (inputs_of chosen) m file × (text ≡ no_file_text file)
-IsText chosen m text Format = (file : List ℕ) × (fault : NcFault) × IsReached (inputs_of chosen) m file × (fault ≢ NoHeaderMemory) × (text ≡ header_fault_text file fault)
-IsText chosen m text Names = (file : List ℕ) × (var : List ℕ) × (fault : NameFault) × IsReached (inputs_of chosen) m file × (fault ≢ NoNameMemory) × (text ≡ name_fault_text file var fault)
-IsText chosen m text Mesh = (file : List ℕ) × (fault : MeshFault) × (IsReached (inputs_of chosen) m file ⊎ (file ≡ codes "generated")) × (fault ≢ NoMeshMemory) × (text ≡ mesh_fault_text file fault)
-IsText chosen m text Limit = ((file : List ℕ) × (n : ℕ) × (IsReached (inputs_of chosen) m file ⊎ (output_of chosen ≡ Some file)) × (text ≡ length_text file n)) ⊎ ((n : ℕ) × (text ≡ too_many_pieces_text n))
-IsText chosen m text status = ⊥
+IsText chosen m text status = IsTextOf (inputs_of chosen) (IsOwnText chosen) m text status
 
--- The line of a refusal is that of the outcome, with a text of its status, or that of a fault or of want of memory. The file of a
--- read fault is one before which no input file is at fault.
-abbrev pub IsLine : Option Chosen → Option Folder → List ℕ → Type 0 → Type 0 → Status → Type 0
-IsLine chosen m line writes outs ReadFault = (file : List ℕ) × IsReached (inputs_of chosen) m file × (line ≡ line_of (read_fault_text file))
-IsLine chosen m line writes outs WriteFault = IsWriteFaultLine (output_of chosen) line writes outs
-IsLine chosen m line writes outs NoMemory = line ≡ line_of (codes "no memory")
-IsLine chosen m line writes outs status = ((text : List ℕ) × IsText chosen m text status × (line ≡ line_of text)) × TheOutcome chosen m (λ o. line ≡ o.line)
+-- The text of a refusal is that of the outcome and of its status, or that of a fault or of want of memory. The file of a read fault
+-- is one before which no input file is at fault.
+abbrev pub IsLineText : Option Chosen → Scene → Scene → List ℕ → Status → Type 0
+IsLineText chosen before after text ReadFault = (input : Input) × IsReached (inputs_of chosen) before.files.folder input × (text ≡ read_fault_text (name_of_input input))
+IsLineText chosen before after text WriteFault = IsWriteFaultText (output_of chosen) before after text
+IsLineText chosen before after text NoMemory = text ≡ codes "no memory"
+IsLineText chosen before after text status = IsText chosen before.files.folder text status × TheOutcome chosen before.files.folder (λ o. o.line ≡ line_of text)
 
--- The line of the status went out, or a prefix of it and then a cause is counted.
-abbrev pub PutsLine : Option Chosen → Option Folder → Option (List ℕ) → Option (List ℕ) → Type 0 → Type 0 → Type 0 → Status → Type 0
-PutsLine chosen m old new writes outs cause status = (line : List ℕ) × IsLine chosen m line writes outs status × GainsLine old new line cause
+-- The line of the status went out, or a prefix of it and then a refused put is counted.
+abbrev pub PutsLine : Option Chosen → Scene → Scene → Status → Type 0
+PutsLine chosen before after status = (text : List ℕ) × IsLineText chosen before after text status × PutsText before.err after.err text
 
 -- A call keeps what is promised of the words.
-pub record Keeps (chosen : Option Chosen) (old_folder new_folder : Option Folder) (misses reads writes outs : Type 0) (old_out new_out old_err new_err : Option (List ℕ)) (cause : Type 0) (status : Status) : Type 0 where
-  pub answer : IsAnswer chosen old_folder reads (writes ⊎ outs) status
-  pub done_folder : status ≡ Done → TheOutcome chosen old_folder (λ o. new_folder ≡ o.folder)
-  pub done_text : status ≡ Done → TheOutcome chosen old_folder (λ o. Gains old_out new_out o.text)
-  pub refused_folder : status ≢ Done → FolderAfterRefusal chosen old_folder new_folder status
-  pub refused_text : status ≢ Done → TextAfterRefusal chosen old_folder old_out new_out status
+pub record Keeps (chosen : Option Chosen) (before after : Scene) (status : Status) : Type 0 where
+  pub answer : IsAnswer chosen before after status
+  pub done_folder : status ≡ Done → TheOutcome chosen before.files.folder (λ o. after.files.folder ≡ o.folder)
+  pub done_text : status ≡ Done → TheOutcome chosen before.files.folder (λ o. Gains before.out.contents after.out.contents o.text)
+  pub refused_folder : status ≢ Done → FolderAfterRefusal chosen before.files.folder after.files.folder status
+  pub refused_text : status ≢ Done → TextAfterRefusal chosen before.files.folder before.out.contents after.out.contents status
   -- where something of the text went out, the output file has all its new bytes
-  pub text_after_file : (new_out ≡ old_out) ⊎ TheOutcome chosen old_folder (λ o. new_folder ≡ o.folder)
+  pub text_after_file : (after.out.contents ≡ before.out.contents) ⊎ TheOutcome chosen before.files.folder (λ o. after.files.folder ≡ o.folder)
   -- and so it has after a write fault that isn't one of the file
-  pub fault_after_file : status ≡ WriteFault → writes ⊎ TheOutcome chosen old_folder (λ o. new_folder ≡ o.folder)
-  pub refused_line : status ≢ Done → PutsLine chosen old_folder old_err new_err writes outs cause status
-  pub no_file : status ≡ NoFile → misses
+  pub fault_after_file : status ≡ WriteFault → Rose before.files.write_faults after.files.write_faults ⊎ TheOutcome chosen before.files.folder (λ o. after.files.folder ≡ o.folder)
+  pub refused_line : status ≢ Done → PutsLine chosen before after status
+  pub usage : status ≡ Usage → is_usage chosen ≡ true
+  pub usage_only : is_usage chosen ≡ true → (status ≡ Usage) ⊎ (status ≡ NoMemory)
+  pub no_file : status ≡ NoFile → Rose before.files.misses after.files.misses
+  pub no_reads : inputs_of chosen ≡ [] → (status ≢ NoFile) × (status ≢ ReadFault)
+  pub bytes_read : status ≡ Done → IfSome before.files.folder (λ m. after.files.taken ≤ before.files.taken + reading_cost m (inputs_of chosen))
+  pub no_bytes : inputs_of chosen ≡ [] → after.files.taken ≡ before.files.taken

@@ -1,9 +1,8 @@
 // The lines of faults.
-ghost use Rattle.std.specs.Prelude.{◌≡◌, ◌⊎◌, ◌++◌, ℕ, List, [], codes, decimal, MatchOption};
-ghost use Rattle.remap_io.specs.Causes.{Rose};
-ghost use Rattle.tempest_top.specs.Lines.{line_of, GainsLine};
+ghost use Rattle.std.specs.Prelude.{◌≡◌, ◌++◌, ℕ, List, [], codes, decimal, MatchOption};
+ghost use Rattle.tempest_top.specs.Lines.{PutsText};
 ghost use Rattle.exodus_mesh.specs.Names.{name_of};
-ghost use Rattle.tempest_top.specs.Faults.{header_fault_text, name_fault_text, mesh_fault_text, length_text, too_many_pieces_text, run_text, status_of_run, made_text, status_of_made, mesh_refusal_text, status_of_mesh};
+ghost use Rattle.tempest_top.specs.Faults.{header_fault_text, name_fault_text, mesh_fault_text, length_text, too_many_pieces_text, run_text, status_of_run, made_text, status_of_made, load_text, status_of_load, mesh_words, status_of, text_of};
 ghost use Rattle.tempest_top.specs.NameParts.{number_behind};
 
 use crate::Status;
@@ -12,16 +11,16 @@ use crate::lines::put_line;
 use exodus_mesh::{NameFault, NameId};
 use itoa::Buffer;
 use mesh_check::{GenFault, MeshFault};
-use mesh_load::MeshRefusal;
+use mesh_load::{MeshFileFault, MeshRefusal};
 use nc_format::NcFault;
 use overlap_run::RunFault;
 use remap_io::Sink;
+use remap_load::{FileRefusal, LoadFault};
 
 // Puts the line of a file, a text and a number.
 #[tactic(auto, using(crate::proofs::Pieces::in_three))]
 fn put_numbered<E: Sink>(err: &mut E, file: &str, text: &str, n: u64)
-    ensures { GainsLine (E.contents err.old) (E.contents err.new) (line_of (file.now ++ text.now ++ decimal n))
-        (Rose (E.faults err.old) (E.faults err.new) ⊎ Rose (E.refusals err.old) (E.refusals err.new)) }
+    ensures { PutsText (E.seen err.old) (E.seen err.new) (file.now ++ text.now ++ decimal n) }
 {
     let mut digits = Buffer::new();
     put_line(err, &[file, text, digits.format(n)]);
@@ -29,8 +28,7 @@ fn put_numbered<E: Sink>(err: &mut E, file: &str, text: &str, n: u64)
 
 // Puts the line that a face of the mesh of this file isn't convex.
 fn put_not_convex<E: Sink>(err: &mut E, file: &str, face: u32)
-    ensures { GainsLine (E.contents err.old) (E.contents err.new) (line_of (file.now ++ codes ": face " ++ decimal face ++ codes " not convex"))
-        (Rose (E.faults err.old) (E.faults err.new) ⊎ Rose (E.refusals err.old) (E.refusals err.new)) }
+    ensures { PutsText (E.seen err.old) (E.seen err.new) (file.now ++ codes ": face " ++ decimal face ++ codes " not convex") }
 {
     let mut digits = Buffer::new();
     put_line(err, &[file, ": face ", digits.format(face), " not convex"]);
@@ -38,8 +36,7 @@ fn put_not_convex<E: Sink>(err: &mut E, file: &str, face: u32)
 
 // Puts the line that the data of a variable of this file lies outside.
 fn put_data_outside<E: Sink>(err: &mut E, file: &str, variable: u32)
-    ensures { GainsLine (E.contents err.old) (E.contents err.new) (line_of (file.now ++ codes ": data of variable " ++ decimal variable ++ codes " outside file"))
-        (Rose (E.faults err.old) (E.faults err.new) ⊎ Rose (E.refusals err.old) (E.refusals err.new)) }
+    ensures { PutsText (E.seen err.old) (E.seen err.new) (file.now ++ codes ": data of variable " ++ decimal variable ++ codes " outside file") }
 {
     let mut digits = Buffer::new();
     put_line(
@@ -55,8 +52,7 @@ fn put_data_outside<E: Sink>(err: &mut E, file: &str, variable: u32)
 
 // Puts the line of a length.
 fn put_length<E: Sink>(err: &mut E, file: &str, length: u64)
-    ensures { GainsLine (E.contents err.old) (E.contents err.new) (line_of (length_text file.now length))
-        (Rose (E.faults err.old) (E.faults err.new) ⊎ Rose (E.refusals err.old) (E.refusals err.new)) }
+    ensures { PutsText (E.seen err.old) (E.seen err.new) (length_text file.now length) }
 {
     let mut digits = Buffer::new();
     put_line(err, &[file, ": ", digits.format(length), " bytes"]);
@@ -64,8 +60,7 @@ fn put_length<E: Sink>(err: &mut E, file: &str, length: u64)
 
 // Puts the line that the header of this file has this fault.
 fn put_header_fault<E: Sink>(err: &mut E, file: &str, fault: NcFault)
-    ensures { GainsLine (E.contents err.old) (E.contents err.new) (line_of (header_fault_text file.now fault))
-        (Rose (E.faults err.old) (E.faults err.new) ⊎ Rose (E.refusals err.old) (E.refusals err.new)) }
+    ensures { PutsText (E.seen err.old) (E.seen err.new) (header_fault_text file.now fault) }
 {
     match fault {
         NcFault::NotNetcdf => put_line(err, &[file, ": not netCDF"]),
@@ -119,8 +114,7 @@ fn block_of(id: NameId) -> Option<u32>
 
 // Puts the line of a file, a text and the name of a block's variable.
 fn put_block_name<E: Sink>(err: &mut E, file: &str, text: &str, block: u32)
-    ensures { GainsLine (E.contents err.old) (E.contents err.new) (line_of (file.now ++ text.now ++ (codes "connect" ++ decimal block)))
-        (Rose (E.faults err.old) (E.faults err.new) ⊎ Rose (E.refusals err.old) (E.refusals err.new)) }
+    ensures { PutsText (E.seen err.old) (E.seen err.new) (file.now ++ text.now ++ (codes "connect" ++ decimal block)) }
 {
     let mut digits = Buffer::new();
     put_line(err, &[file, text, "connect", digits.format(block)]);
@@ -128,8 +122,7 @@ fn put_block_name<E: Sink>(err: &mut E, file: &str, text: &str, block: u32)
 
 // Puts the line of a file, a text and a name.
 fn put_name<E: Sink>(err: &mut E, file: &str, text: &str, var: &str, id: NameId)
-    ensures { GainsLine (E.contents err.old) (E.contents err.new) (line_of (file.now ++ text.now ++ name_of var.now id))
-        (Rose (E.faults err.old) (E.faults err.new) ⊎ Rose (E.refusals err.old) (E.refusals err.new)) }
+    ensures { PutsText (E.seen err.old) (E.seen err.new) (file.now ++ text.now ++ name_of var.now id) }
 {
     let front = front_of(id, var);
     match block_of(id) {
@@ -140,8 +133,7 @@ fn put_name<E: Sink>(err: &mut E, file: &str, text: &str, var: &str, id: NameId)
 
 // Puts the line that a needed name of this file is at fault. `--var` gave the name `var`.
 fn put_name_fault<E: Sink>(err: &mut E, file: &str, var: &str, fault: NameFault)
-    ensures { GainsLine (E.contents err.old) (E.contents err.new) (line_of (name_fault_text file.now var.now fault))
-        (Rose (E.faults err.old) (E.faults err.new) ⊎ Rose (E.refusals err.old) (E.refusals err.new)) }
+    ensures { PutsText (E.seen err.old) (E.seen err.new) (name_fault_text file.now var.now fault) }
 {
     match fault {
         NameFault::Missing(id) => put_name(err, file, ": missing ", var, id),
@@ -153,8 +145,7 @@ fn put_name_fault<E: Sink>(err: &mut E, file: &str, var: &str, fault: NameFault)
 
 // Puts the line that the mesh of this file has this fault. It takes no memory.
 fn put_mesh_fault<E: Sink>(err: &mut E, file: &str, fault: MeshFault)
-    ensures { GainsLine (E.contents err.old) (E.contents err.new) (line_of (mesh_fault_text file.now fault))
-        (Rose (E.faults err.old) (E.faults err.new) ⊎ Rose (E.refusals err.old) (E.refusals err.new)) }
+    ensures { PutsText (E.seen err.old) (E.seen err.new) (mesh_fault_text file.now fault) }
 {
     match fault {
         MeshFault::TooManyNodes(n) => put_numbered(err, file, ": too many nodes ", u64::from(n)),
@@ -175,8 +166,7 @@ fn put_mesh_fault<E: Sink>(err: &mut E, file: &str, fault: MeshFault)
 /// Refuses what a generator answered in place of a mesh.
 pub fn refuse_made<E: Sink>(err: &mut E, fault: GenFault) -> Status
     ensures status { result ≡ status_of_made fault }
-    ensures line { GainsLine (E.contents err.old) (E.contents err.new) (line_of (made_text fault))
-        (Rose (E.faults err.old) (E.faults err.new) ⊎ Rose (E.refusals err.old) (E.refusals err.new)) }
+    ensures line { PutsText (E.seen err.old) (E.seen err.new) (made_text fault) }
 {
     match fault {
         GenFault::Mesh(fault) => {
@@ -187,43 +177,51 @@ pub fn refuse_made<E: Sink>(err: &mut E, fault: GenFault) -> Status
     }
 }
 
-/// Refuses a mesh file.
-pub fn refuse_mesh_file<E: Sink>(err: &mut E, file: &str, why: MeshRefusal) -> Status
-    ensures status { result ≡ status_of_mesh why }
-    ensures line { GainsLine (E.contents err.old) (E.contents err.new) (line_of (mesh_refusal_text file.now why))
-        (Rose (E.faults err.old) (E.faults err.new) ⊎ Rose (E.refusals err.old) (E.refusals err.new)) }
+/// Refuses a file that wasn't loaded.
+pub fn refuse_load<E: Sink>(err: &mut E, file: &str, fault: LoadFault) -> Status
+    ensures status { result ≡ status_of_load fault }
+    ensures line { PutsText (E.seen err.old) (E.seen err.new) (load_text file.now fault) }
 {
-    match why {
-        MeshRefusal::NoFile => {
+    match fault {
+        LoadFault::Absent => {
             put_line(err, &["no file ", file]);
             Status::NoFile
         }
-        MeshRefusal::ReadFault => {
+        LoadFault::Failed => {
             put_line(err, &["read fault on ", file]);
             Status::ReadFault
         }
-        MeshRefusal::TooLong(n) => refuse_length(err, file, n),
-        MeshRefusal::Format(fault) => {
+        LoadFault::TooLong(n) => refuse_length(err, file, n),
+        LoadFault::Format(fault) => {
             put_header_fault(err, file, fault);
             Status::Format
         }
-        MeshRefusal::Names(fault) => {
+        LoadFault::NoMemory => refuse_memory(err),
+    }
+}
+
+/// Refuses a mesh file.
+pub fn refuse_mesh_file<E: Sink>(err: &mut E, file: &str, why: MeshRefusal) -> Status
+    ensures status { result ≡ status_of mesh_words why }
+    ensures line { PutsText (E.seen err.old) (E.seen err.new) (text_of mesh_words file.now why) }
+{
+    match why {
+        FileRefusal::Load(fault) => refuse_load(err, file, fault),
+        FileRefusal::Content(MeshFileFault::Names(fault)) => {
             put_name_fault(err, file, "", fault);
             Status::Names
         }
-        MeshRefusal::Mesh(fault) => {
+        FileRefusal::Content(MeshFileFault::Mesh(fault)) => {
             put_mesh_fault(err, file, fault);
             Status::Mesh
         }
-        MeshRefusal::NoMemory => refuse_memory(err),
     }
 }
 
 /// Refuses a file that has, or would have, too many bytes: this many.
 pub fn refuse_length<E: Sink>(err: &mut E, file: &str, length: u64) -> Status
     ensures status { result ≡ Status.Limit }
-    ensures line { GainsLine (E.contents err.old) (E.contents err.new) (line_of (length_text file.now length))
-        (Rose (E.faults err.old) (E.faults err.new) ⊎ Rose (E.refusals err.old) (E.refusals err.new)) }
+    ensures line { PutsText (E.seen err.old) (E.seen err.new) (length_text file.now length) }
 {
     put_length(err, file, length);
     Status::Limit
@@ -231,8 +229,7 @@ pub fn refuse_length<E: Sink>(err: &mut E, file: &str, length: u64) -> Status
 
 // Puts the line that too many pairs of faces meet.
 fn put_too_many<E: Sink>(err: &mut E, pairs: u64)
-    ensures { GainsLine (E.contents err.old) (E.contents err.new) (line_of (too_many_pieces_text pairs))
-        (Rose (E.faults err.old) (E.faults err.new) ⊎ Rose (E.refusals err.old) (E.refusals err.new)) }
+    ensures { PutsText (E.seen err.old) (E.seen err.new) (too_many_pieces_text pairs) }
 {
     let mut digits = Buffer::new();
     put_line(err, &["too many pieces ", digits.format(pairs)]);
@@ -241,8 +238,7 @@ fn put_too_many<E: Sink>(err: &mut E, pairs: u64)
 /// Refuses what was answered in place of an overlap.
 pub fn refuse_run<E: Sink>(err: &mut E, fault: RunFault) -> Status
     ensures status { result ≡ status_of_run fault }
-    ensures line { GainsLine (E.contents err.old) (E.contents err.new) (line_of (run_text fault))
-        (Rose (E.faults err.old) (E.faults err.new) ⊎ Rose (E.refusals err.old) (E.refusals err.new)) }
+    ensures line { PutsText (E.seen err.old) (E.seen err.new) (run_text fault) }
 {
     match fault {
         RunFault::TooManyPieces(pairs) => {

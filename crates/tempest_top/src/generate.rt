@@ -1,7 +1,6 @@
 // The commands that make a mesh.
-ghost use Rattle.std.specs.Prelude.{◌≡◌, ◌≢◌, ◌≤◌, ◌⊎◌, All, IfOk, Some, length, string_bytes};
+ghost use Rattle.std.specs.Prelude.{◌≡◌, ◌≤◌, All, IfOk, Some, length, string_bytes};
 ghost use Rattle.vec_exact.specs.Counts.{AreAllowedCounts};
-ghost use Rattle.remap_io.specs.Causes.{Rose};
 ghost use Rattle.nc_write.specs.File.{file_of};
 ghost use Rattle.nc_write.specs.Form.{IsWellFormed};
 ghost use Rattle.mesh_check.specs.Mesh.{IsAcceptedMesh};
@@ -9,6 +8,7 @@ ghost use Rattle.mesh_check.specs.FirstFault.{HasFaceSize};
 ghost use Rattle.gen_cs.specs.CubedSphere.{cubed_sphere};
 ghost use Rattle.exodus_mesh.specs.MeshDocument.{mesh_document};
 ghost use Rattle.command_line.specs.declared.choices.Chosen.TheVariants.{Cs, Rll, Ico};
+ghost use Rattle.tempest_top.specs.Scene.{scene};
 ghost use Rattle.tempest_top.specs.Lines.{mesh_text};
 ghost use Rattle.tempest_top.specs.Outcome.{mesh_output, mesh_written};
 ghost use Rattle.tempest_top.specs.Ends.{Ends};
@@ -79,13 +79,11 @@ fn write_mesh<F: Files, O: Sink, E: Sink>(
     err: &mut E,
 ) -> Status
     requires { IsAcceptedMesh mesh.now }
-    ensures ends { Ends (mesh_written mesh.now file.now (F.folder files.old)) (F.folder files.old) (F.folder files.new)
-        (Rose (F.write_faults files.old) (F.write_faults files.new)) (Rose (O.faults out.old) (O.faults out.new))
-        (O.contents out.old) (O.contents out.new) (E.contents err.old) (E.contents err.new)
-        (Rose (E.faults err.old) (E.faults err.new) ⊎ Rose (E.refusals err.old) (E.refusals err.new)) result }
+    ensures ends { Ends (mesh_written mesh.now file.now (F.seen files.old).folder)
+        (scene (F.seen files.old) (O.seen out.old) (E.seen err.old))
+        (scene (F.seen files.new) (O.seen out.new) (E.seen err.new)) result }
     ensures no_line { result ≡ Status.Done → err.new ≡ err.old }
-    ensures no_reads { F.taken files.new ≡ F.taken files.old }
-    ensures only { (result ≡ Status.Done) ⊎ ((result ≡ Status.WriteFault) ⊎ (result ≡ Status.NoMemory)) }
+    ensures no_reads { (F.seen files.new).taken ≡ (F.seen files.old).taken }
 {
     let Ok((bytes, text)) = accepted_file(alloc, mesh) else {
         return refuse_memory(err);
@@ -93,8 +91,31 @@ fn write_mesh<F: Files, O: Sink, E: Sink>(
     write_then_text(files, out, err, file.text.as_str(), &bytes, text.as_bytes())
 }
 
-/// `GenerateCSMesh`: writes the cubed sphere of resolution `res` to `file`, and puts its size.
+// The same of the cubed sphere.
 #[tactic(auto, unfolding(crate::specs::Outcome::mesh_output))]
+fn write_sphere<F: Files, O: Sink, E: Sink>(
+    alloc: Global,
+    res: u32,
+    file: &Text,
+    files: &mut F,
+    out: &mut O,
+    err: &mut E,
+) -> Status
+    requires least { 1 ≤ res }
+    requires greatest { res ≤ 400 }
+    ensures ends { Ends (mesh_written (cubed_sphere res) file.now (F.seen files.old).folder)
+        (scene (F.seen files.old) (O.seen out.old) (E.seen err.old))
+        (scene (F.seen files.new) (O.seen out.new) (E.seen err.new)) result }
+    ensures no_line { result ≡ Status.Done → err.new ≡ err.old }
+    ensures no_reads { (F.seen files.new).taken ≡ (F.seen files.old).taken }
+{
+    let Ok((bytes, text)) = sphere_file(alloc, res) else {
+        return refuse_memory(err);
+    };
+    write_then_text(files, out, err, file.text.as_str(), &bytes, text.as_bytes())
+}
+
+/// `GenerateCSMesh`: writes the cubed sphere of resolution `res` to `file`, and puts its size.
 pub fn generate_cs<F: Files, O: Sink, E: Sink>(
     alloc: Global,
     res: u32,
@@ -105,18 +126,12 @@ pub fn generate_cs<F: Files, O: Sink, E: Sink>(
 ) -> Status
     requires least { 1 ≤ res }
     requires greatest { res ≤ 400 }
-    ensures kept { Keeps (Some (Cs res file.now)) (F.folder files.old) (F.folder files.new)
-        (Rose (F.misses files.old) (F.misses files.new)) (Rose (F.faults files.old) (F.faults files.new)) (Rose (F.write_faults files.old) (F.write_faults files.new)) (Rose (O.faults out.old) (O.faults out.new))
-        (O.contents out.old) (O.contents out.new) (E.contents err.old) (E.contents err.new)
-        (Rose (E.faults err.old) (E.faults err.new) ⊎ Rose (E.refusals err.old) (E.refusals err.new)) result }
+    ensures kept { Keeps (Some (Cs res file.now))
+        (scene (F.seen files.old) (O.seen out.old) (E.seen err.old))
+        (scene (F.seen files.new) (O.seen out.new) (E.seen err.new)) result }
     ensures no_line { result ≡ Status.Done → err.new ≡ err.old }
-    ensures no_reads { F.taken files.new ≡ F.taken files.old }
-    ensures only { (result ≡ Status.Done) ⊎ ((result ≡ Status.WriteFault) ⊎ (result ≡ Status.NoMemory)) }
 {
-    let Ok((bytes, text)) = sphere_file(alloc, res) else {
-        return refuse_memory(err);
-    };
-    write_then_text(files, out, err, file.text.as_str(), &bytes, text.as_bytes())
+    write_sphere(alloc, res, file, files, out, err)
 }
 
 /// `GenerateRLLMesh`: writes the latitude-longitude mesh of `lon` by `lat` to `file`, and puts its
@@ -132,13 +147,10 @@ pub fn generate_rll<F: Files, O: Sink, E: Sink>(
 ) -> Status
     requires lon { (3 ≤ lon) × (lon ≤ 720) }
     requires lat { (2 ≤ lat) × (lat ≤ 360) }
-    ensures kept { Keeps (Some (Rll lon lat file.now)) (F.folder files.old) (F.folder files.new)
-        (Rose (F.misses files.old) (F.misses files.new)) (Rose (F.faults files.old) (F.faults files.new)) (Rose (F.write_faults files.old) (F.write_faults files.new)) (Rose (O.faults out.old) (O.faults out.new))
-        (O.contents out.old) (O.contents out.new) (E.contents err.old) (E.contents err.new)
-        (Rose (E.faults err.old) (E.faults err.new) ⊎ Rose (E.refusals err.old) (E.refusals err.new)) result }
+    ensures kept { Keeps (Some (Rll lon lat file.now))
+        (scene (F.seen files.old) (O.seen out.old) (E.seen err.old))
+        (scene (F.seen files.new) (O.seen out.new) (E.seen err.new)) result }
     ensures no_line { result ≡ Status.Done → err.new ≡ err.old }
-    ensures no_reads { F.taken files.new ≡ F.taken files.old }
-    ensures only { (result ≡ Status.Done) ⊎ ((result ≡ Status.Mesh) ⊎ ((result ≡ Status.WriteFault) ⊎ (result ≡ Status.NoMemory))) }
 {
     match gen_rll::make(alloc, lon, lat) {
         Ok(mesh) => write_mesh(alloc, &mesh, file, files, out, err),
@@ -159,13 +171,10 @@ pub fn generate_ico<F: Files, O: Sink, E: Sink>(
 ) -> Status
     requires least { 1 ≤ res }
     requires greatest { res ≤ 200 }
-    ensures kept { Keeps (Some (Ico res dual file.now)) (F.folder files.old) (F.folder files.new)
-        (Rose (F.misses files.old) (F.misses files.new)) (Rose (F.faults files.old) (F.faults files.new)) (Rose (F.write_faults files.old) (F.write_faults files.new)) (Rose (O.faults out.old) (O.faults out.new))
-        (O.contents out.old) (O.contents out.new) (E.contents err.old) (E.contents err.new)
-        (Rose (E.faults err.old) (E.faults err.new) ⊎ Rose (E.refusals err.old) (E.refusals err.new)) result }
+    ensures kept { Keeps (Some (Ico res dual file.now))
+        (scene (F.seen files.old) (O.seen out.old) (E.seen err.old))
+        (scene (F.seen files.new) (O.seen out.new) (E.seen err.new)) result }
     ensures no_line { result ≡ Status.Done → err.new ≡ err.old }
-    ensures no_reads { F.taken files.new ≡ F.taken files.old }
-    ensures only { (result ≡ Status.Done) ⊎ ((result ≡ Status.Mesh) ⊎ ((result ≡ Status.WriteFault) ⊎ (result ≡ Status.NoMemory))) }
 {
     match gen_ico::make(alloc, res, dual) {
         Ok(mesh) => write_mesh(alloc, &mesh, file, files, out, err),

@@ -1,17 +1,18 @@
 // The line of a refusal.
-ghost use Rattle.std.specs.Prelude.{◌≡◌, ◌≤◌, ◌⊎◌, flat_map, MatchBool};
-ghost use Rattle.remap_io.specs.Causes.{Rose};
+ghost use Rattle.std.specs.Prelude.{flat_map, MatchBool, ⊤};
 ghost use Rattle.remap_io.specs.Held.{Gains, GainsPart};
-ghost use Rattle.tempest_top.specs.Lines.{line_of, GainsLine};
+ghost use Rattle.remap_io.specs.Outside.{NoPutCountFalls};
+ghost use Rattle.tempest_top.specs.Lines.{IsPutRefused, PutsText};
 
 use remap_io::{PutErr, Sink};
 
 // Puts a part, and says whether the whole of it went out.
 fn put_part<E: Sink>(err: &mut E, part: &[u8]) -> bool
-    ensures gained { MatchBool result (Gains (E.contents err.old) (E.contents err.new) part.now) (GainsPart (E.contents err.old) (E.contents err.new) part.now) }
-    ensures cause { MatchBool result (E.contents err.old ≡ E.contents err.old) (Rose (E.faults err.old) (E.faults err.new) ⊎ Rose (E.refusals err.old) (E.refusals err.new)) }
-    ensures later_faults { E.faults err.old ≤ E.faults err.new }
-    ensures later_refusals { E.refusals err.old ≤ E.refusals err.new }
+    ensures gained { MatchBool result
+        (Gains (E.seen err.old).contents (E.seen err.new).contents part.now)
+        (GainsPart (E.seen err.old).contents (E.seen err.new).contents part.now) }
+    ensures cause { MatchBool result ⊤ (IsPutRefused (E.seen err.old) (E.seen err.new)) }
+    ensures counts { NoPutCountFalls (E.seen err.old) (E.seen err.new) }
 {
     match err.put(part) {
         Ok(()) => true,
@@ -22,8 +23,8 @@ fn put_part<E: Sink>(err: &mut E, part: &[u8]) -> bool
 
 /// Puts the line of these parts. Where a put is refused, nothing more is put. It takes no memory.
 pub fn put_line<E: Sink>(err: &mut E, parts: &[&str])
-    ensures line { GainsLine (E.contents err.old) (E.contents err.new) (line_of (flat_map (λ part. part.now) parts.now))
-        (Rose (E.faults err.old) (E.faults err.new) ⊎ Rose (E.refusals err.old) (E.refusals err.new)) }
+    ensures line { PutsText (E.seen err.old) (E.seen err.new)
+        (flat_map (λ part. part.now) parts.now) }
 {
     if !put_part(err, b"tempest: ") {
         return;

@@ -1,18 +1,21 @@
 // The command that finds the pieces of two meshes.
-ghost use Rattle.std.specs.Prelude.{◌≡◌, ◌≢◌, ◌≤◌, ◌<◌, ◌+◌, ◌⊎◌, ◌∷◌, [], IfOk, IfErr, IfSome, Some, length, string_bytes};
-ghost use Rattle.remap_io.specs.Causes.{Rose};
+ghost use Rattle.std.specs.Prelude.{◌≡◌, ◌≤◌, ◌<◌, ◌+◌, [], IfOk, IfErr, IfSome, OnOk, Some, length, string_bytes};
+ghost use Rattle.remap_io.specs.Folder.{OnFile};
+ghost use Rattle.remap_io.specs.Outside.{OnlyReads};
 ghost use Rattle.nc_write.specs.File.{file_of};
 ghost use Rattle.clip.specs.Overlaps.{OverlapParts};
 ghost use Rattle.clip.specs.Columns.{AreColumnsOf};
 ghost use Rattle.overlap_run.specs.Whole.{HoldsOverlap, IsRefusalOf};
+ghost use Rattle.remap_load.specs.Kinds.{HasContent, IsFileRefusal, file_cost};
 ghost use Rattle.remap_files.specs.OverlapDocument.{overlap_document};
 ghost use Rattle.remap_files.specs.InColumns.{IsInColumns};
 ghost use Rattle.command_line.specs.declared.choices.Chosen.TheVariants.{Overlap as OverlapOf};
-ghost use Rattle.tempest_top.specs.Lines.{pieces_text};
-ghost use Rattle.tempest_top.specs.Inputs.{MeshFile, reading_cost};
+ghost use Rattle.tempest_top.specs.Scene.{scene};
+ghost use Rattle.tempest_top.specs.Lines.{pieces_text, PutsText};
+ghost use Rattle.tempest_top.specs.Faults.{mesh_words, status_of, text_of};
 ghost use Rattle.tempest_top.specs.Outcome.{IsOutcomeOfDocument, IsOutcomeOfPair};
 ghost use Rattle.tempest_top.specs.Ends.{Comes};
-ghost use Rattle.tempest_top.specs.Promises.{Keeps};
+ghost use Rattle.tempest_top.specs.Promises.{IsOverlapText, Keeps};
 
 use crate::Status;
 use crate::faults::{refuse_length, refuse_mesh_file, refuse_run};
@@ -20,7 +23,7 @@ use crate::finish::{refuse_memory, write_then_text};
 use clip::Columns;
 use command_line::Text;
 use mesh_check::{Mesh, face_count};
-use mesh_load::load_mesh;
+use mesh_load::{MeshRefusal, load_mesh};
 use nc_write::{EncFault, encode};
 use overlap_run::{OpenGate, RunFault, overlap_list};
 use remap_files::{columns_doc, columns_length};
@@ -97,29 +100,27 @@ fn write_overlap<F: Files, O: Sink, E: Sink>(
     faces_a: u32,
     faces_b: u32,
     columns: Columns,
-    file: &str,
+    file: &Text,
     files: &mut F,
     out: &mut O,
     err: &mut E,
 ) -> Status
     requires held { (o : OverlapParts) × IsInColumns o faces_a faces_b columns }
     ensures comes { (o : OverlapParts) → IsInColumns o faces_a faces_b columns
-        → Comes (IsOutcomeOfDocument (overlap_document o) (pieces_text (length o.pieces)) file.now (F.folder files.old)) (F.folder files.old) (F.folder files.new)
-        (Rose (F.write_faults files.old) (F.write_faults files.new)) (Rose (O.faults out.old) (O.faults out.new))
-        (O.contents out.old) (O.contents out.new) (E.contents err.old) (E.contents err.new)
-        (Rose (E.faults err.old) (E.faults err.new) ⊎ Rose (E.refusals err.old) (E.refusals err.new)) result }
+        → Comes [] (IsOverlapText file.now) (Some file.now)
+        (IsOutcomeOfDocument (overlap_document o) (pieces_text (length o.pieces)) file.now)
+        (scene (F.seen files.old) (O.seen out.old) (E.seen err.old))
+        (scene (F.seen files.new) (O.seen out.new) (E.seen err.new)) result }
     ensures no_line { result ≡ Status.Done → err.new ≡ err.old }
-    ensures no_reads { F.taken files.new ≡ F.taken files.old }
-    ensures only { (result ≢ Status.Usage) × (result ≢ Status.NoFile) }
 {
     let length = columns_length(faces_a, faces_b, &columns);
     if length > MAX_LEN {
-        return refuse_length(err, file, length);
+        return refuse_length(err, file.text.as_str(), length);
     }
     let Ok((bytes, text)) = overlap_file(alloc, faces_a, faces_b, columns) else {
         return refuse_memory(err);
     };
-    write_then_text(files, out, err, file, &bytes, text.as_bytes())
+    write_then_text(files, out, err, file.text.as_str(), &bytes, text.as_bytes())
 }
 
 // Writes the overlap of two meshes, which are let go when it is found.
@@ -129,19 +130,16 @@ fn write_pair<R: Threads, F: Files, O: Sink, E: Sink>(
     a: Mesh,
     b: Mesh,
     workers: u32,
-    file: &str,
+    file: &Text,
     files: &mut F,
     out: &mut O,
     err: &mut E,
 ) -> Status
     requires { (1 ≤ workers) × (workers ≤ 64) }
-    ensures comes { Comes (IsOutcomeOfPair a b file.now (F.folder files.old)) (F.folder files.old) (F.folder files.new)
-        (Rose (F.write_faults files.old) (F.write_faults files.new)) (Rose (O.faults out.old) (O.faults out.new))
-        (O.contents out.old) (O.contents out.new) (E.contents err.old) (E.contents err.new)
-        (Rose (E.faults err.old) (E.faults err.new) ⊎ Rose (E.refusals err.old) (E.refusals err.new)) result }
+    ensures comes { Comes [] (IsOverlapText file.now) (Some file.now) (IsOutcomeOfPair a b file.now)
+        (scene (F.seen files.old) (O.seen out.old) (E.seen err.old))
+        (scene (F.seen files.new) (O.seen out.new) (E.seen err.new)) result }
     ensures no_line { result ≡ Status.Done → err.new ≡ err.old }
-    ensures no_reads { F.taken files.new ≡ F.taken files.old }
-    ensures only { (result ≢ Status.Usage) × (result ≢ Status.NoFile) }
 {
     let columns = match meet(rt, alloc, &a, &b, workers) {
         Ok(columns) => columns,
@@ -152,6 +150,27 @@ fn write_pair<R: Threads, F: Files, O: Sink, E: Sink>(
     drop(a);
     drop(b);
     write_overlap(alloc, faces_a, faces_b, columns, file, files, out, err)
+}
+
+// The mesh of an input file.
+fn mesh_of<F: Files>(alloc: Global, files: &mut F, file: &Text) -> Result<Mesh, MeshRefusal>
+    ensures mesh { IfOk result (λ mesh. OnFile (F.seen files.old).folder file.now
+        (λ bytes. HasContent mesh_words.kind bytes mesh)) }
+    ensures refusal { IfErr result
+        (IsFileRefusal mesh_words.kind (F.seen files.old) (F.seen files.new) file.now) }
+    ensures reads { OnlyReads (F.seen files.old) (F.seen files.new) }
+    ensures asked { OnOk result (IfSome (F.seen files.old).folder (λ m. (F.seen files.new).taken
+        ≤ (F.seen files.old).taken + file_cost mesh_words.kind m file.now)) }
+{
+    load_mesh(alloc, files, file.text.as_str())
+}
+
+// Refuses an input file.
+fn refuse_mesh<E: Sink>(err: &mut E, file: &Text, why: MeshRefusal) -> Status
+    ensures status { result ≡ status_of mesh_words why }
+    ensures line { PutsText (E.seen err.old) (E.seen err.new) (text_of mesh_words file.now why) }
+{
+    refuse_mesh_file(err, file.text.as_str(), why)
 }
 
 /// `GenerateOverlapMesh`: finds all pieces that the source mesh in `a` and the target mesh in `b`
@@ -168,24 +187,18 @@ pub fn generate_overlap<R: Threads, F: Files, O: Sink, E: Sink>(
     err: &mut E,
 ) -> Status
     requires { (1 ≤ workers) × (workers ≤ 64) }
-    ensures kept { Keeps (Some (OverlapOf a.now b.now file.now workers)) (F.folder files.old) (F.folder files.new)
-        (Rose (F.misses files.old) (F.misses files.new)) (Rose (F.faults files.old) (F.faults files.new)) (Rose (F.write_faults files.old) (F.write_faults files.new)) (Rose (O.faults out.old) (O.faults out.new))
-        (O.contents out.old) (O.contents out.new) (E.contents err.old) (E.contents err.new)
-        (Rose (E.faults err.old) (E.faults err.new) ⊎ Rose (E.refusals err.old) (E.refusals err.new)) result }
+    ensures kept { Keeps (Some (OverlapOf a.now b.now file.now workers))
+        (scene (F.seen files.old) (O.seen out.old) (E.seen err.old))
+        (scene (F.seen files.new) (O.seen out.new) (E.seen err.new)) result }
     ensures no_line { result ≡ Status.Done → err.new ≡ err.old }
-    ensures bytes_read { result ≡ Status.Done → IfSome (F.folder files.old) (λ m. F.taken files.new ≤ F.taken files.old + reading_cost m (MeshFile a.now ∷ MeshFile b.now ∷ [])) }
-    ensures only { result ≢ Status.Usage }
 {
-    let source_name = a.text.as_str();
-    let source = match load_mesh(alloc, files, source_name) {
+    let source = match mesh_of(alloc, files, a) {
         Ok(mesh) => mesh,
-        Err(why) => return refuse_mesh_file(err, source_name, why),
+        Err(why) => return refuse_mesh(err, a, why),
     };
-    let target_name = b.text.as_str();
-    let target = match load_mesh(alloc, files, target_name) {
+    let target = match mesh_of(alloc, files, b) {
         Ok(mesh) => mesh,
-        Err(why) => return refuse_mesh_file(err, target_name, why),
+        Err(why) => return refuse_mesh(err, b, why),
     };
-    let output = file.text.as_str();
-    write_pair(rt, alloc, source, target, workers, output, files, out, err)
+    write_pair(rt, alloc, source, target, workers, file, files, out, err)
 }

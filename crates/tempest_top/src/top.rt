@@ -3,6 +3,7 @@ ghost use Rattle.std.specs.Prelude.{◌≡◌, ◌≢◌, ◌≤◌, ◌+◌, �
 ghost use Rattle.remap_io.specs.Causes.{Rose};
 ghost use Rattle.remap_io.specs.Held.{Gains};
 ghost use Rattle.command_line.specs.Words.{options_of, texts, HasLimits};
+ghost use Rattle.tempest_top.specs.Scene.{scene};
 ghost use Rattle.tempest_top.specs.Inputs.{inputs_of, reading_cost};
 ghost use Rattle.tempest_top.specs.Outcome.{TheOutcome, is_usage};
 ghost use Rattle.tempest_top.specs.Promises.{IsAnswer, FolderAfterRefusal, TextAfterRefusal, PutsLine, Keeps};
@@ -26,16 +27,10 @@ fn run_chosen<R: Threads, F: Files, O: Sink, E: Sink>(
     err: &mut E,
 ) -> Status
     requires { HasLimits chosen }
-    ensures kept { Keeps (Some chosen) (F.folder files.old) (F.folder files.new)
-        (Rose (F.misses files.old) (F.misses files.new)) (Rose (F.faults files.old) (F.faults files.new)) (Rose (F.write_faults files.old) (F.write_faults files.new)) (Rose (O.faults out.old) (O.faults out.new))
-        (O.contents out.old) (O.contents out.new) (E.contents err.old) (E.contents err.new)
-        (Rose (E.faults err.old) (E.faults err.new) ⊎ Rose (E.refusals err.old) (E.refusals err.new)) result }
+    ensures kept { Keeps (Some chosen)
+        (scene (F.seen files.old) (O.seen out.old) (E.seen err.old))
+        (scene (F.seen files.new) (O.seen out.new) (E.seen err.new)) result }
     ensures no_line { result ≡ Status.Done → err.new ≡ err.old }
-    ensures usage { result ≡ Status.Usage → is_usage (Some chosen) ≡ true }
-    ensures usage_only { is_usage (Some chosen) ≡ true → result ≡ Status.Usage }
-    ensures no_reads { inputs_of (Some chosen) ≡ [] → (result ≢ Status.NoFile) × (result ≢ Status.ReadFault) }
-    ensures bytes_read { result ≡ Status.Done → IfSome (F.folder files.old) (λ m. F.taken files.new ≤ F.taken files.old + reading_cost m (inputs_of (Some chosen))) }
-    ensures no_bytes { inputs_of (Some chosen) ≡ [] → F.taken files.new ≡ F.taken files.old }
 {
     match chosen {
         Chosen::Cs { res, file } => generate_cs(alloc, res, &file, files, out, err),
@@ -66,16 +61,10 @@ fn run_words<R: Threads, F: Files, O: Sink, E: Sink>(
     out: &mut O,
     err: &mut E,
 ) -> Status
-    ensures kept { Keeps (options_of (texts words.now)) (F.folder files.old) (F.folder files.new)
-        (Rose (F.misses files.old) (F.misses files.new)) (Rose (F.faults files.old) (F.faults files.new)) (Rose (F.write_faults files.old) (F.write_faults files.new)) (Rose (O.faults out.old) (O.faults out.new))
-        (O.contents out.old) (O.contents out.new) (E.contents err.old) (E.contents err.new)
-        (Rose (E.faults err.old) (E.faults err.new) ⊎ Rose (E.refusals err.old) (E.refusals err.new)) result }
+    ensures kept { Keeps (options_of (texts words.now))
+        (scene (F.seen files.old) (O.seen out.old) (E.seen err.old))
+        (scene (F.seen files.new) (O.seen out.new) (E.seen err.new)) result }
     ensures no_line { result ≡ Status.Done → err.new ≡ err.old }
-    ensures usage { result ≡ Status.Usage → is_usage (options_of (texts words.now)) ≡ true }
-    ensures usage_only { is_usage (options_of (texts words.now)) ≡ true → (result ≡ Status.Usage) ⊎ (result ≡ Status.NoMemory) }
-    ensures no_reads { inputs_of (options_of (texts words.now)) ≡ [] → (result ≢ Status.NoFile) × (result ≢ Status.ReadFault) }
-    ensures bytes_read { result ≡ Status.Done → IfSome (F.folder files.old) (λ m. F.taken files.new ≤ F.taken files.old + reading_cost m (inputs_of (options_of (texts words.now)))) }
-    ensures no_bytes { inputs_of (options_of (texts words.now)) ≡ [] → F.taken files.new ≡ F.taken files.old }
 {
     match options(alloc, words) {
         Ok(chosen) => run_chosen(rt, alloc, chosen, files, out, err),
@@ -101,39 +90,59 @@ pub fn run<F: Files, O: Sink, E: Sink>(
     err: &mut E,
 ) -> Status
     // The status promise: the status is that of the outcome, or a counted fault, or want of memory.
-    ensures status { IsAnswer (options_of (texts words.now)) (F.folder files.old) (Rose (F.faults files.old) (F.faults files.new))
-        (Rose (F.write_faults files.old) (F.write_faults files.new) ⊎ Rose (O.faults out.old) (O.faults out.new)) result }
+    ensures status { IsAnswer (options_of (texts words.now))
+        (scene (F.seen files.old) (O.seen out.old) (E.seen err.old))
+        (scene (F.seen files.new) (O.seen out.new) (E.seen err.new)) result }
 
-    // The success promise: at Done the folder and the text are those of the outcome, and `err` is as it was.
-    ensures done_folder { result ≡ Status.Done → TheOutcome (options_of (texts words.now)) (F.folder files.old) (λ o. F.folder files.new ≡ o.folder) }
-    ensures done_text { result ≡ Status.Done → TheOutcome (options_of (texts words.now)) (F.folder files.old) (λ o. Gains (O.contents out.old) (O.contents out.new) o.text) }
+    // The success promise: at Done the folder and the text are those of the outcome, and `err` is as
+    // it was.
+    ensures done_folder { result ≡ Status.Done → TheOutcome (options_of (texts words.now))
+        (F.seen files.old).folder (λ o. (F.seen files.new).folder ≡ o.folder) }
+    ensures done_text { result ≡ Status.Done → TheOutcome (options_of (texts words.now))
+        (F.seen files.old).folder
+        (λ o. Gains (O.seen out.old).contents (O.seen out.new).contents o.text) }
     ensures done_line { result ≡ Status.Done → err.new ≡ err.old }
 
     // The refusal promise: what a refusal leaves in the folder and in `out`.
-    ensures refused_folder { result ≢ Status.Done → FolderAfterRefusal (options_of (texts words.now)) (F.folder files.old) (F.folder files.new) result }
-    ensures refused_text { result ≢ Status.Done → TextAfterRefusal (options_of (texts words.now)) (F.folder files.old) (O.contents out.old) (O.contents out.new) result }
-    ensures text_after_file { (O.contents out.new ≡ O.contents out.old) ⊎ TheOutcome (options_of (texts words.now)) (F.folder files.old) (λ o. F.folder files.new ≡ o.folder) }
-    ensures fault_after_file { result ≡ Status.WriteFault → Rose (F.write_faults files.old) (F.write_faults files.new)
-        ⊎ TheOutcome (options_of (texts words.now)) (F.folder files.old) (λ o. F.folder files.new ≡ o.folder) }
+    ensures refused_folder { result ≢ Status.Done → FolderAfterRefusal
+        (options_of (texts words.now))
+        (F.seen files.old).folder (F.seen files.new).folder result }
+    ensures refused_text { result ≢ Status.Done → TextAfterRefusal (options_of (texts words.now))
+        (F.seen files.old).folder (O.seen out.old).contents (O.seen out.new).contents result }
+    ensures text_after_file { ((O.seen out.new).contents ≡ (O.seen out.old).contents)
+        ⊎ TheOutcome (options_of (texts words.now)) (F.seen files.old).folder
+        (λ o. (F.seen files.new).folder ≡ o.folder) }
+    ensures fault_after_file { result ≡ Status.WriteFault
+        → Rose (F.seen files.old).write_faults (F.seen files.new).write_faults
+        ⊎ TheOutcome (options_of (texts words.now)) (F.seen files.old).folder
+        (λ o. (F.seen files.new).folder ≡ o.folder) }
 
-    // The message promise: a refusal puts its line, or a prefix of it where `err` counts a refused put.
-    ensures refused_line { result ≢ Status.Done → PutsLine (options_of (texts words.now)) (F.folder files.old) (E.contents err.old) (E.contents err.new)
-        (Rose (F.write_faults files.old) (F.write_faults files.new)) (Rose (O.faults out.old) (O.faults out.new))
-        (Rose (E.faults err.old) (E.faults err.new) ⊎ Rose (E.refusals err.old) (E.refusals err.new)) result }
+    // The message promise: a refusal puts its line, or a prefix of it where `err` counts a refused
+    // put.
+    ensures refused_line { result ≢ Status.Done → PutsLine (options_of (texts words.now))
+        (scene (F.seen files.old) (O.seen out.old) (E.seen err.old))
+        (scene (F.seen files.new) (O.seen out.new) (E.seen err.new)) result }
 
     // The cause promise: Usage is answered exactly for words that ask for nothing that the program
     // has; NoFile only where the count of misses rose. A command without an input file answers
     // neither NoFile nor ReadFault. What stands in the line of a ReadFault and of a WriteFault is
     // said in the message promise.
     ensures usage { result ≡ Status.Usage → is_usage (options_of (texts words.now)) ≡ true }
-    ensures usage_only { is_usage (options_of (texts words.now)) ≡ true → (result ≡ Status.Usage) ⊎ (result ≡ Status.NoMemory) }
-    ensures no_file { result ≡ Status.NoFile → Rose (F.misses files.old) (F.misses files.new) }
-    ensures no_reads { inputs_of (options_of (texts words.now)) ≡ [] → (result ≢ Status.NoFile) × (result ≢ Status.ReadFault) }
+    ensures usage_only { is_usage (options_of (texts words.now)) ≡ true
+        → (result ≡ Status.Usage) ⊎ (result ≡ Status.NoMemory) }
+    ensures no_file { result ≡ Status.NoFile
+        → Rose (F.seen files.old).misses (F.seen files.new).misses }
+    ensures no_reads { inputs_of (options_of (texts words.now)) ≡ []
+        → (result ≢ Status.NoFile) × (result ≢ Status.ReadFault) }
 
-    // The bytes-read promise: at Done no more bytes were asked for than the headers and the needed
-    // variables of the input files have; and none without an input file.
-    ensures bytes_read { result ≡ Status.Done → IfSome (F.folder files.old) (λ m. F.taken files.new ≤ F.taken files.old + reading_cost m (inputs_of (options_of (texts words.now)))) }
-    ensures no_bytes { inputs_of (options_of (texts words.now)) ≡ [] → F.taken files.new ≡ F.taken files.old }
+    // The bytes-read promise: at Done no more bytes were asked for than `reading_cost` of the input
+    // files, which is 65,536 or twice the header for each, and its needed variables; and none
+    // without an input file.
+    ensures bytes_read { result ≡ Status.Done → IfSome (F.seen files.old).folder (λ m.
+        (F.seen files.new).taken
+        ≤ (F.seen files.old).taken + reading_cost m (inputs_of (options_of (texts words.now)))) }
+    ensures no_bytes { inputs_of (options_of (texts words.now)) ≡ []
+        → (F.seen files.new).taken ≡ (F.seen files.old).taken }
 {
     run_words(rt, alloc, words, files, out, err)
 }

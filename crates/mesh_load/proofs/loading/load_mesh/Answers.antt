@@ -1,15 +1,14 @@
-use Rattle.mesh_load.proofs.Refused.{says, told_refusal, told_meshes}
-use Rattle.mesh_load.proofs.OneAnswer.{finds_mesh, finds_refusal}
+use Rattle.remap_load.proofs.Contents.{finds, refuses}
+use Rattle.mesh_load.specs.MeshFile.{mesh_kind}
+use Rattle.mesh_load.proofs.OneMesh.{mesh_law}
 use Rattle.mesh_load.proofs.loading.load_mesh.Goals as goal
 
-pub returns-clause-mesh : goal.returns-clause-mesh
-returns-clause-mesh g c = told_meshes _ _ c.load.result c.load.ensures.mesh
-
-pub returns-clause-refusal : goal.returns-clause-refusal
-returns-clause-refusal g c = says _ _ c.load.result (λ e h. told_refusal _ _ e h) c.load.ensures.refusal
-
 pub returns-clause-found : goal.returns-clause-found
-returns-clause-found g c = finds_mesh _ _ c.load.result (told_meshes _ _ c.load.result c.load.ensures.mesh) (says _ _ c.load.result (λ e h. told_refusal _ _ e h) c.load.ensures.refusal)
+returns-clause-found g c =
+    let h = c.load.ensures in
+    finds mesh_kind mesh_law (g.F.Files.seen c.args.files.now) (g.F.Files.seen c.load.new.files) c.args.name.now c.load.result h.mesh h.refusal
 
 pub returns-clause-refused : goal.returns-clause-refused
-returns-clause-refused g c = finds_refusal _ _ c.load.result (told_meshes _ _ c.load.result c.load.ensures.mesh) (says _ _ c.load.result (λ e h. told_refusal _ _ e h) c.load.ensures.refusal)
+returns-clause-refused g c =
+    let h = c.load.ensures in
+    refuses mesh_kind mesh_law (g.F.Files.seen c.args.files.now) (g.F.Files.seen c.load.new.files) c.args.name.now c.load.result h.mesh h.refusal

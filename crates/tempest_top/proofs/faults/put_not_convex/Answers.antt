@@ -1,11 +1,7 @@
-use Rattle.std.proofs.Common.{◌⊎◌, codes}
-use Rattle.remap_io.specs.Causes.{Rose}
-use Rattle.tempest_top.specs.Lines.{GainsLine}
-use Rattle.tempest_top.proofs.Pieces.{line_of_four}
+use Rattle.std.proofs.Common.{codes}
+use Rattle.tempest_top.specs.Lines.{PutsText}
+use Rattle.tempest_top.proofs.Pieces.{text_of_four}
 use Rattle.tempest_top.proofs.faults.put_not_convex.Goals as goal
 
 pub returns : goal.returns
-returns g c =
-    let new = c.put_line.new.err in
-    let C = Rose (g.E.Sink.faults c.args.err.now) (g.E.Sink.faults new) ⊎ Rose (g.E.Sink.refusals c.args.err.now) (g.E.Sink.refusals new) in
-    line_of_four (λ l. GainsLine (g.E.Sink.contents c.args.err.now) (g.E.Sink.contents new) l C) c.args.file.now (codes ": face ") c.format.result.now _ (codes " not convex") c.format.ensures.text c.put_line.ensures.line
+returns g c = text_of_four (PutsText (g.E.Sink.seen c.args.err.now) (g.E.Sink.seen c.put_line.new.err)) c.args.file.now (codes ": face ") c.format.result.now _ (codes " not convex") c.format.ensures.text c.put_line.ensures.line

@@ -1,30 +1,23 @@
-use Rattle.std.proofs.Common.{rules, refl, inr, codes}
-use Rattle.tempest_top.specs.Lines.{line_of}
-use Rattle.tempest_top.proofs.Written.{whole_is_part}
+use Rattle.std.proofs.Common.{rules, ◌++◌, codes, refl}
+use Rattle.remap_io.specs.Causes.{Rose}
+use Rattle.remap_io.specs.Folder.{IsPartlyReplaced}
+use Rattle.tempest_top.specs.Lines.{PutsText}
+use Rattle.tempest_top.specs.Scene.{scene}
+use Rattle.tempest_top.proofs.Pieces.{text_of_two}
+use Rattle.tempest_top.proofs.Written.{ends_written, ends_failed}
 use Rattle.tempest_top.proofs.finish.write_then_text.Goals as goal
 
-pub returns-in-Err-Failed-put-clause-ends : goal.returns-in-Err-Failed-put-clause-ends
-returns-in-Err-Failed-put-clause-ends g c = record {
-  answer = search rules;
-  done_folder = search rules;
-  done_text = search rules;
-  refused_folder = λ _. inr (tt, refl, whole_is_part _ _ _ _ c.in-Ok.ensures.ok);
-  refused_text = λ _. inr (tt, refl, c.in-Err-Failed-put.ensures.err);
-  text_after_file = inr (search rules);
-  fault_after_file = λ _. inr (search rules);
-  refused_line = search rules;
-  fault_line = λ _. (_, line_of (codes "write fault on output"), refl, inr (refl, search rules), c.put_line-in-Err-Failed-put.ensures.line);
-}
+pub returns-in-Ok-clause-ends : goal.returns-in-Ok-clause-ends
+returns-in-Ok-clause-ends g c =
+    let before = scene (g.F.Files.seen c.args.files.now) (g.O.Sink.seen c.args.out.now) (g.E.Sink.seen c.args.err.now) in
+    let after = scene (g.F.Files.seen c.replace.new.self) (g.O.Sink.seen c.put_text_alone.new.out) (g.E.Sink.seen c.put_text_alone.new.err) in
+    ends_written (record { name = c.args.name.now; bytes = c.args.bytes.now }) c.args.text.now before after _ c.in-Ok.ensures.ok (c.put_text_alone.ensures.ends (g.F.Files.seen c.replace.new.self))
 
-pub returns-in-Err-NoMemory-put-clause-ends : goal.returns-in-Err-NoMemory-put-clause-ends
-returns-in-Err-NoMemory-put-clause-ends g c = record {
-  answer = search rules;
-  done_folder = search rules;
-  done_text = search rules;
-  refused_folder = λ _. inr (tt, refl, whole_is_part _ _ _ _ c.in-Ok.ensures.ok);
-  refused_text = λ _. inr (tt, refl, c.in-Err-NoMemory-put.ensures.err);
-  text_after_file = inr (search rules);
-  fault_after_file = search rules;
-  refused_line = λ _ _. (line_of (codes "no memory"), refl, c.put_line-in-Err-NoMemory-put.ensures.line);
-  fault_line = search rules;
-}
+pub returns-in-Err-Failed-clause-ends : goal.returns-in-Err-Failed-clause-ends
+returns-in-Err-Failed-clause-ends g c =
+    let before = scene (g.F.Files.seen c.args.files.now) (g.O.Sink.seen c.args.out.now) (g.E.Sink.seen c.args.err.now) in
+    let after = scene (g.F.Files.seen c.replace.new.self) (g.O.Sink.seen c.args.out.now) (g.E.Sink.seen c.put_line.new.err) in
+    let part : IsPartlyReplaced before.files.folder c.args.name.now c.args.bytes.now after.files.folder = search rules in
+    let rose : Rose before.files.write_faults after.files.write_faults = search rules in
+    let put : PutsText before.err after.err (codes "write fault on " ++ c.args.name.now) = text_of_two (PutsText before.err after.err) (codes "write fault on ") c.args.name.now c.args.name.now refl c.put_line.ensures.line in
+    ends_failed (record { name = c.args.name.now; bytes = c.args.bytes.now }) c.args.text.now before after part rose refl put

@@ -1,9 +1,29 @@
-use Rattle.std.proofs.Common.{rules, ap, refl, inl, Err}
-use Rattle.tempest_top.proofs.Keeping.{keeps_made, keeps_refused}
+use Rattle.std.proofs.Common.{Some, Err, refl, sym, ap, subst, inl}
+use Rattle.vec_exact.specs.declared.RawMesh.{RawMesh}
+use Rattle.mesh_check.specs.Mesh.{IsAcceptedMesh}
+use Rattle.command_line.specs.declared.choices.Chosen.TheVariants.{Rll}
+use Rattle.tempest_top.specs.Scene.{scene}
+use Rattle.tempest_top.specs.Outcome.{IsOutcome, IsOutcomeOfMade, mesh_written}
+use Rattle.tempest_top.specs.Promises.{IsMadeText}
+use Rattle.tempest_top.proofs.Outcomes.{accepted_made}
+use Rattle.tempest_top.proofs.Endings.{comes_mesh, comes_unmade}
+use Rattle.tempest_top.proofs.Keeping.{keeps}
 use Rattle.tempest_top.proofs.generate.generate_rll.Goals as goal
 
 pub returns-in-Ok-clause-kept : goal.returns-in-Ok-clause-kept
-returns-in-Ok-clause-kept g c = keeps_made _ _ _ _ _ _ _ _ _ _ _ _ _ _ _ _ (λ o h. h) refl c.in-Ok.ensures.mesh c.in-Ok.ensures.accepted (search rules) c.write_mesh.ensures.ends
+returns-in-Ok-clause-kept g c =
+    let chosen = Some (Rll c.args.lon c.args.lat c.args.file.now) in
+    let file = c.args.file.now in
+    let before = scene (g.F.Files.seen c.args.files.now) (g.O.Sink.seen c.args.out.now) (g.E.Sink.seen c.args.err.now) in
+    let after = scene (g.F.Files.seen c.write_mesh.new.files) (g.O.Sink.seen c.write_mesh.new.out) (g.E.Sink.seen c.write_mesh.new.err) in
+    let accepted : IsAcceptedMesh c.in-Ok.mesh = subst IsAcceptedMesh (sym c.in-Ok.ensures.mesh) c.in-Ok.ensures.accepted in
+    keeps chosen before after _ refl
+    (comes_mesh IsMadeText file (IsOutcome chosen) before after c.in-Ok.mesh _ (subst (λ (r : RawMesh). IsOutcomeOfMade r file before.files.folder (mesh_written c.in-Ok.mesh file before.files.folder)) c.in-Ok.ensures.mesh (accepted_made c.in-Ok.mesh file before.files.folder accepted)) c.write_mesh.ensures.no_reads c.write_mesh.ensures.ends)
 
 pub returns-in-Err-clause-kept : goal.returns-in-Err-clause-kept
-returns-in-Err-clause-kept g c = keeps_refused _ _ _ _ _ _ _ _ _ _ _ _ (λ e. c.in-Err.ensures.outer (ap Err e)) (λ fault e. inl (fault, c.in-Err.ensures.fault fault (ap Err e), refl)) c.refuse_made.ensures.status c.refuse_made.ensures.line
+returns-in-Err-clause-kept g c =
+    let chosen = Some (Rll c.args.lon c.args.lat c.args.file.now) in
+    let before = scene (g.F.Files.seen c.args.files.now) (g.O.Sink.seen c.args.out.now) (g.E.Sink.seen c.args.err.now) in
+    let after = scene (g.F.Files.seen c.args.files.now) (g.O.Sink.seen c.args.out.now) (g.E.Sink.seen c.refuse_made.new.err) in
+    keeps chosen before after _ refl
+    (comes_unmade (Some c.args.file.now) (IsOutcome chosen) before after c.in-Err.fault _ (λ e. c.in-Err.ensures.outer (ap Err e)) (λ fault e. inl (fault, c.in-Err.ensures.fault fault (ap Err e), refl)) refl refl c.refuse_made.ensures.status c.refuse_made.ensures.line)

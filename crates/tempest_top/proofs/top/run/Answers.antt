@@ -13,10 +13,10 @@ returns g c =
       text_after_file = kept.text_after_file;
       fault_after_file = kept.fault_after_file;
       refused_line = kept.refused_line;
-      usage = c.run_words.ensures.usage;
-      usage_only = c.run_words.ensures.usage_only;
+      usage = kept.usage;
+      usage_only = kept.usage_only;
       no_file = kept.no_file;
-      no_reads = c.run_words.ensures.no_reads;
-      bytes_read = c.run_words.ensures.bytes_read;
-      no_bytes = c.run_words.ensures.no_bytes;
+      no_reads = kept.no_reads;
+      bytes_read = kept.bytes_read;
+      no_bytes = kept.no_bytes;
     }
