@@ -45,18 +45,18 @@ pub fn ascending<C: PieceList, G: Gate, L: Ledger>(
     Ok(run)
 }
 
-// All blocks, on the calling thread or by several workers, as one.
+// All blocks, on the calling thread or by several workers, as one. The index is let go on the way.
 fn all_blocks<R: Threads, C: PieceList + Send + Sync, G: Gate + Sync, L: Ledger>(
     rt: &R,
     alloc: Global,
     a: &Mesh,
     b: &Mesh,
-    index: &Index,
+    index: Index,
     workers: u32,
     gate: &G,
     steps: &mut Steps<L>,
 ) -> Result<Block<C>, NoMemory>
-    requires index { IsIndexOf index.now b.now }
+    requires index { IsIndexOf index b.now }
     requires workers { (1 ≤ workers) × (workers ≤ 64) }
     ensures run { IfOk result (IsBlockOf C.holds a.now b.now (DoMeet a.now b.now)) }
     ensures ticks { workers ≡ 1 → OnOk result (steps.new
@@ -66,7 +66,7 @@ fn all_blocks<R: Threads, C: PieceList + Send + Sync, G: Gate + Sync, L: Ledger>
     ensures still { 2 ≤ workers → steps.new ≡ steps.old }
 {
     if workers == 1 {
-        ascending(alloc, a, b, index, gate, steps)
+        ascending(alloc, a, b, &index, gate, steps)
     } else {
         shared_out(rt, alloc, a, b, index, workers, gate)
     }
@@ -103,7 +103,7 @@ pub fn overlap_list<C: PieceList + Send + Sync, G: Gate + Sync, L: Ledger>(
     let _source_faces = face_count(a);
     let _target_faces = face_count(b);
     let index = build(alloc, b)?;
-    let run = all_blocks(rt, alloc, a, b, &index, workers, gate, steps)?;
+    let run = all_blocks(rt, alloc, a, b, index, workers, gate, steps)?;
     if run.count > GREATEST_COUNT {
         return Err(RunFault::TooManyPieces(run.count));
     }

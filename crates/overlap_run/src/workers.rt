@@ -14,7 +14,7 @@ use crate::blocks::{
 use crate::run::ascending;
 use crate::{Block, Gate};
 use block_workers::{BlockJob, Parts, Placed, run_blocks};
-use cell_index::Index;
+use cell_index::{Index, build};
 use clip::PieceList;
 use mesh_check::{Mesh, face_count};
 use std::alloc::Global;
@@ -183,29 +183,24 @@ fn alone<C: PieceList, G: Gate, L: Ledger>(
     ascending(alloc, a, b, index, gate, &mut steps)
 }
 
-// All blocks, drawn by the workers from one word, as one.
+// All blocks, drawn by the workers from one word, as one. The index is let go before the pieces are
+// gathered, since the lists of the workers and the list of all pieces stand beside each other then.
 pub fn shared_out<R: Threads, C: PieceList + Send + Sync, G: Gate + Sync>(
     rt: &R,
     alloc: Global,
     a: &Mesh,
     b: &Mesh,
-    index: &Index,
+    index: Index,
     workers: u32,
     gate: &G,
 ) -> Result<Block<C>, NoMemory>
-    requires index { IsIndexOf index.now b.now }
+    requires index { IsIndexOf index b.now }
     requires workers { (1 ≤ workers) × (workers ≤ 64) }
     ensures { IfOk result (IsBlockOf C.holds a.now b.now (DoMeet a.now b.now)) }
 {
-    let job = SourceBlocks {
-        a,
-        b,
-        index,
-        gate,
-        list: PhantomData::<C>,
-    };
     let count = face_count(a).div_ceil(BLOCK_SIZE);
-    let Parts { parts, blocks } = run_blocks(rt, alloc, &job, count, workers)?;
+    let Parts { parts, blocks } = clipped_blocks(rt, alloc, a, b, &index, workers, gate, count)?;
+    drop(index);
     if have_lists(&parts) {
         return gather(alloc, a, b, &parts, blocks);
     }
@@ -216,7 +211,36 @@ pub fn shared_out<R: Threads, C: PieceList + Send + Sync, G: Gate + Sync>(
             pieces: C::none(alloc),
         });
     }
-    // No worker has more pairs than there are, so this line is never reached. No clause of
+    // No worker has more pairs than there are, so these lines are never reached. No clause of
     // `run_blocks` says so.
-    alone::<C, G, Brand>(alloc, a, b, index, gate, Blank::new(1))
+    let index = build(alloc, b)?;
+    alone::<C, G, Brand>(alloc, a, b, &index, gate, Blank::new(1))
+}
+
+// So many blocks from the first on, drawn by the workers.
+fn clipped_blocks<R: Threads, C: PieceList + Send + Sync, G: Gate + Sync>(
+    rt: &R,
+    alloc: Global,
+    a: &Mesh,
+    b: &Mesh,
+    index: &Index,
+    workers: u32,
+    gate: &G,
+    count: u32,
+) -> Result<Parts<Waiting<C>, Block<Stretch>>, NoMemory>
+    requires index { IsIndexOf index.now b.now }
+    requires workers { (1 ≤ workers) × (workers ≤ 64) }
+    requires count { count ≤ div_ceil (length a.now.faces) 64 }
+    ensures count { IfOk result (λ done. length done.blocks.items ≡ count) }
+    ensures each { IfOk result (λ done. AllInPlace
+        (DoesBlockWait C.holds C.is_behind a.now b.now done.parts.items) done.blocks.items) }
+{
+    let job = SourceBlocks {
+        a,
+        b,
+        index,
+        gate,
+        list: PhantomData::<C>,
+    };
+    run_blocks(rt, alloc, &job, count, workers)
 }

@@ -1,4 +1,4 @@
-use Rattle.std.proofs.Common.{length, arith, refl, ◌∙◌, ◌+◌, ◌-◌}
+use Rattle.std.proofs.Common.{length, arith, refl, ◌∙◌}
 use Rattle.vec_exact.specs.Cycle.{corner}
 use Rattle.cone_laws.specs.Ring.{listed, planes_of_pair}
 use Rattle.clip.specs.Outlines.{nodes_of}

@@ -1,5 +1,4 @@
-use Rattle.std.proofs.Common.{◌≡◌, ap, sym, subst, ◌∙◌}
-use Rattle.vec_exact.specs.declared.Vec3.{Vec3}
+use Rattle.std.proofs.Common.{ap, sym, subst, ◌∙◌}
 use Rattle.vec_exact.specs.Face.{vector_of}
 use Rattle.clip.specs.declared.forms.CornerForm.{CornerForm}
 use Rattle.clip.specs.Forms.{IsFormOf}

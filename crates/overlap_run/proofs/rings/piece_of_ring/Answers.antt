@@ -1,7 +1,6 @@
-use Rattle.std.proofs.Common.{◌≡◌, List, ap₂, subst, arith}
-use Rattle.vec_exact.specs.declared.Vec3.{Vec3}
+use Rattle.std.proofs.Common.{ap₂, subst, arith}
 use Rattle.vec_exact.specs.Face.{IsAcceptedFace}
-use Rattle.cone_laws.specs.Ring.{planes_of_pair, IsRing}
+use Rattle.cone_laws.specs.Ring.{planes_of_pair}
 use Rattle.mesh_check.specs.Mesh.{corners_of}
 use Rattle.clip.specs.Outlines.{nodes_of}
 use Rattle.clip.proofs.RingFacts.{ring_greatest_size, ring_numbers}

@@ -2,7 +2,6 @@ use Rattle.std.proofs.Common.{◌≡◌, ◌+◌, ◌*◌, ◌<◌, ◌≤◌, �
 use Rattle.std.specs.Int.{div_ceil}
 use Rattle.vec_exact.specs.declared.RawMesh.{RawMesh}
 use Rattle.block_workers.specs.declared.job.Placed.{Placed}
-use Rattle.clip.specs.declared.pieces.Piece.{Piece}
 use Rattle.overlap_run.specs.declared.blocks.Block.{Block}
 use Rattle.overlap_run.specs.declared.blocks.Stretch.{Stretch}
 use Rattle.overlap_run.specs.Parts.{IsNumberedBlock, IsFirstCount}
