@@ -201,15 +201,15 @@ pub fn shared_out<R: Threads, C: PieceList + Send + Sync, G: Gate + Sync>(
     let count = face_count(a).div_ceil(BLOCK_SIZE);
     let Parts { parts, blocks } = clipped_blocks(rt, alloc, a, b, &index, workers, gate, count)?;
     drop(index);
-    if have_lists(&parts) {
-        return gather(alloc, a, b, &parts, blocks);
-    }
     let pairs = pair_count(a, b, &parts, &blocks);
     if pairs > GREATEST_COUNT {
         return Ok(Block {
             count: pairs,
             pieces: C::none(alloc),
         });
+    }
+    if have_lists(&parts) {
+        return gather(alloc, a, b, &parts, blocks);
     }
     // No worker has more pairs than there are, so these lines are never reached. No clause of
     // `run_blocks` says so.

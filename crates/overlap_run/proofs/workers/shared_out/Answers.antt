@@ -12,9 +12,9 @@ returns-then-have_lists g c =
 
 pub returns-then-pairs-gt-GREATEST_COUNT : goal.returns-then-pairs-gt-GREATEST_COUNT
 returns-then-pairs-gt-GREATEST_COUNT g c =
-    let blocks = c.deref-3.result.now in
+    let blocks = c.deref-2.result.now in
     let all : length blocks ≡ div_ceil (length c.args.a.now.faces) 64 =
-    ap length c.deref-3.ensures.value ∙ c.in_ok-parts.ensures.count ∙ c.div_ceil-count.ensures ∙ ap (λ (n : ℕ). div_ceil n 64) c.face_count.ensures.count in
+    ap length c.deref-2.ensures.value ∙ c.in_ok-parts.ensures.count ∙ c.div_ceil-count.ensures ∙ ap (λ (n : ℕ). div_ceil n 64) c.face_count.ensures.count in
     let counted = first_all {C = Unit {0}} (λ _ _. Unit {0}) c.args.a.now c.args.b.now (length blocks) (length blocks) (omega arith) all _ c.pair_count-pairs.ensures in
     record {
       count = counted.count;
