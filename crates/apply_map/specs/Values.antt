@@ -6,10 +6,6 @@ use Rattle.map_rows.specs.declared.rows.MapRow.{MapRow}
 abbrev pub IsInt32 : ℤ → Type 0
 IsInt32 x = (negsuc 2147483647 ≤ℤ x) × (x ≤ℤ pos 2147483647)
 
--- a measure is from 1 to the greatest one
-abbrev pub HasMeasure : MapRow → Type 0
-HasMeasure r = (pos 1 ≤ℤ r.s) × (r.s ≤ℤ pos 1099511627775)
-
 -- the slice that begins at place `first` has a value of the row's source
 abbrev pub HasValue : List ℤ → ℕ → MapRow → Type 0
 HasValue values first r = (1 ≤ r.col) × (first + (r.col - 1) < length values)
