@@ -22,6 +22,7 @@ area_read m j = let e : j ≡ 1 + j - 1 = omega arith in ap (λ (k : ℕ). get_o
 
 -- the rows of the target at place j, and its area
 pub record AreRowsOf (m : MapParts) (values : List ℤ) (slice first j : ℕ) (rows : List MapRow) (area : ℤ) : Type 0 where
+  pub are : rows ≡ rows_of target_of m.rows (1 + j)
   pub count : length rows ≤ 8388608
   pub measures : All HasMeasure rows
   pub read : All (HasValue values first) rows
@@ -51,6 +52,7 @@ rows_at m values slice first j k groups rows areas s c e g a l place is =
     subst (λ (xs : List MapRow). AreRowsOf m values slice first j xs (get_or areas j (pos 0))) same
     (subst (λ (x : ℤ). AreRowsOf m values slice first j mine x) area
     (record {
+      are = refl;
       count = omega (arith, s.count, count_next m.rows (1 + j), count_most m.rows (1 + j + 1));
       measures = All-weaker (IsSoundRow m.n_a m.n_b) HasMeasure (λ r q. (q.least, q.greatest)) mine sound;
       read = All-weaker (IsSoundRow m.n_a m.n_b) (HasValue values first) (λ r q. has_value m values slice first r c e q) mine sound;

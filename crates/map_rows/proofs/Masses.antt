@@ -101,7 +101,7 @@ application_at m slices values slice j l p q =
     ∙ ap (λ (s : ℕ). get_or (slice_of m values s) (j - 1) no_share) (let e : 0 + slice ≡ slice = omega arith in e)
     ∙ get_or-map-range_with_len (share_at m values slice) 1 m.n_b (j - 1) j no_share (omega (arith, p, q)) (omega (arith, p))
 
-place_within : (slices n slice k : ℕ) → slice < slices → k < n → slice * n + k < slices * n
+pub place_within : (slices n slice k : ℕ) → slice < slices → k < n → slice * n + k < slices * n
 place_within slices n slice k l m = grind arith
 
 pub part_in : (m : MapParts) (slices : ℕ) (values : List ℤ) (slice j : ℕ) (f : WholeAndRest → ℤ) → slice < slices → 1 ≤ j → j ≤ m.n_b
