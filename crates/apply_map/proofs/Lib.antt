@@ -1,3 +1,3 @@
 pub mod MassSteps
-mod SumSteps
-mod Slices
+pub mod SumSteps
+pub mod Slices

@@ -14,7 +14,7 @@ use Rattle.map_rows.proofs.Products.{sum_times, times_order, zero_times}
 use borrow.Author.Differences.{product_is}
 use mir.Syntax.{w32, w64, w128}
 use mir.Val.{SFits, to_z, of_z}
-use Rattle.apply_map.specs.Values.{IsInt32, HasRestsBelow}
+use Rattle.apply_map.specs.Values.{IsInt32, HasRestsWithin}
 
 pub total-push : (xs : List ℤ) (y : ℤ) → total (xs ++ y ∷ []) ≡ total xs +ℤ y
 unfolding total
@@ -156,7 +156,7 @@ below_limit n slice slices p q r = omega (arith, p, q, r)
 -- ---- the targets
 -- area times whole part plus rest at place j, as it was read
 pub read_target : (areas whole rest : List ℤ) (slice j : ℕ) (part : ℤ) → pos 0 ≤ℤ get_or areas j (pos 0) → SFits w64 (get_or areas j (pos 0)) → IsInt32 (get_or whole (slice * length areas + j) (pos 0))
-    → SFits w64 (get_or rest (slice * length areas + j) (pos 0)) → pos 0 ≤ℤ get_or rest (slice * length areas + j) (pos 0) → get_or rest (slice * length areas + j) (pos 0) <ℤ get_or areas j (pos 0)
+    → SFits w64 (get_or rest (slice * length areas + j) (pos 0)) → pos 0 ≤ℤ get_or rest (slice * length areas + j) (pos 0) → get_or rest (slice * length areas + j) (pos 0) ≤ℤ get_or areas j (pos 0)
     → part ≡ to_z w64 (of_z w64 (get_or areas j (pos 0))) *ℤ to_z w32 (of_z w32 (get_or whole (slice * length areas + j) (pos 0))) +ℤ to_z w64 (of_z w64 (get_or rest (slice * length areas + j) (pos 0)))
     → (part ≡ (area_at areas (1 + j) *ℤ value_at whole (length areas) slice (1 + j)) +ℤ value_at rest (length areas) slice (1 + j))
     × ((get_or areas j (pos 0) *ℤ negsuc 2147483647) ≤ℤ part) × (part ≤ℤ (get_or areas j (pos 0) *ℤ pos 2147483648))
@@ -192,10 +192,10 @@ target_areas m s =
     (ap (length {A = ℤ}) s.target_areas ∙ length-sums_of target_of measure_of m.n_b m.rows, subst (λ (t : ℤ). t <ℤ pos 9223372036854775808) fit.same fit.fit)
 
 -- the rests of one slice
-pub slice_rests : (m : MapParts) (slices slice : ℕ) (whole rest : List ℤ) → IsSoundMap m → IsFieldOf m slices whole rest → slice < slices → HasRestsBelow m.area_b slice rest
+pub slice_rests : (m : MapParts) (slices slice : ℕ) (whole rest : List ℤ) → IsSoundMap m → IsFieldOf m slices whole rest → slice < slices → HasRestsWithin m.area_b slice rest
 slice_rests m slices slice whole rest s h l k q =
     let size = (target_areas m s).0 in
     let place : k ≡ 1 + k - 1 = omega arith in
     let r = h.rests slice (1 + k) (l, omega arith, omega (arith, q, size)) in
-    subst (λ (n : ℕ). (pos 0 ≤ℤ get_or rest (slice * n + k) (pos 0)) × (get_or rest (slice * n + k) (pos 0) <ℤ get_or m.area_b k (pos 0))) (sym size)
-    (subst (λ (i : ℕ). (pos 0 ≤ℤ get_or rest (slice * m.n_b + i) (pos 0)) × (get_or rest (slice * m.n_b + i) (pos 0) <ℤ get_or m.area_b i (pos 0))) (sym place) r)
+    subst (λ (n : ℕ). (pos 0 ≤ℤ get_or rest (slice * n + k) (pos 0)) × (get_or rest (slice * n + k) (pos 0) ≤ℤ get_or m.area_b k (pos 0))) (sym size)
+    (subst (λ (i : ℕ). (pos 0 ≤ℤ get_or rest (slice * m.n_b + i) (pos 0)) × (get_or rest (slice * m.n_b + i) (pos 0) ≤ℤ get_or m.area_b i (pos 0))) (sym place) (r.0, omega (arith, ints, r.1)))

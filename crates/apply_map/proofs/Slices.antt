@@ -1,19 +1,18 @@
 -- What is appended target by target, and slice by slice.
 use Rattle.std.proofs.Common.{◌≡◌, ℕ, ◌+◌, ◌-◌, ◌<◌, ◌≤◌, ◌*◌, ℤ, pos, ◌≤ℤ◌, eqb, List, [], ◌∷◌, ◌++◌, length, map, get_or, take, ap, ap₂, subst, sym, ◌∙◌, refl, arith, append_assoc}
 use Rattle.std.specs.List.{All, range_with_len, flat_map}
-use Rattle.std.proofs.lemmas.List.{take_more, map-append, map-id, append-nil}
-use Rattle.std.proofs.lemmas.List.Concat.{flat_map-append}
+use Rattle.std.proofs.lemmas.List.{take_more, take_all, map-append}
 use Rattle.std.proofs.lemmas.List.Elements.{All-weaker, All-filter}
-use Rattle.std.proofs.lemmas.List.FromFn.{map-range_with_len_more, get_or-map-range_with_len}
+use Rattle.std.proofs.lemmas.List.FromFn.{length-map-range_with_len, get_or-map-range_with_len}
 use Rattle.map_rows.specs.declared.rows.MapRow.{MapRow}
-use Rattle.map_rows.specs.Maps.{MapParts, IsSoundMap, IsSoundRow, total, measure_of, target_of, rows_of}
+use Rattle.map_rows.specs.Maps.{MapParts, IsSoundMap, IsSoundRow, total, measure_of, target_of, rows_of, HasMeasure}
 use Rattle.map_rows.specs.Targets.{groups_of}
 use Rattle.map_rows.proofs.Groups.{count_next, count_most}
 use Rattle.map_rows.proofs.Bounds.{target_area, target_covered}
-use Rattle.apply_map.specs.Values.{HasMeasure, HasValue, carried}
-use Rattle.map_rows.specs.Application.{WholeAndRest, area_at, divided, share_at, slice_of, application_of}
+use Rattle.apply_map.specs.Values.{HasValue, carried}
+use Rattle.map_rows.specs.Application.{area_at, divided, share_at, slice_of}
+use Rattle.vec_exact.proofs.Ranges.{flat_range_more}
 use Rattle.map_rows.proofs.FaceSums.{length-sums_of}
-use Rattle.map_rows.proofs.Masses.{length-slice_of}
 
 pub size_of_areas : (m : MapParts) → IsSoundMap m → length m.area_b ≡ m.n_b
 size_of_areas m s = ap (length {A = ℤ}) s.target_areas ∙ length-sums_of target_of measure_of m.n_b m.rows
@@ -23,6 +22,7 @@ area_read m j = let e : j ≡ 1 + j - 1 = omega arith in ap (λ (k : ℕ). get_o
 
 -- the rows of the target at place j, and its area
 pub record AreRowsOf (m : MapParts) (values : List ℤ) (slice first j : ℕ) (rows : List MapRow) (area : ℤ) : Type 0 where
+  pub are : rows ≡ rows_of target_of m.rows (1 + j)
   pub count : length rows ≤ 8388608
   pub measures : All HasMeasure rows
   pub read : All (HasValue values first) rows
@@ -52,6 +52,7 @@ rows_at m values slice first j k groups rows areas s c e g a l place is =
     subst (λ (xs : List MapRow). AreRowsOf m values slice first j xs (get_or areas j (pos 0))) same
     (subst (λ (x : ℤ). AreRowsOf m values slice first j mine x) area
     (record {
+      are = refl;
       count = omega (arith, s.count, count_next m.rows (1 + j), count_most m.rows (1 + j + 1));
       measures = All-weaker (IsSoundRow m.n_a m.n_b) HasMeasure (λ r q. (q.least, q.greatest)) mine sound;
       read = All-weaker (IsSoundRow m.n_a m.n_b) (HasValue values first) (λ r q. has_value m values slice first r c e q) mine sound;
@@ -60,35 +61,23 @@ rows_at m values slice first j k groups rows areas s c e g a l place is =
       share = ap (λ (f : ℕ). divided (total (map (carried values f) mine)) (area_at m.area_b (1 + j))) e;
     }))
 
--- one target more
-pub slice_more : (f : WholeAndRest → ℤ) (m : MapParts) (values : List ℤ) (slice j : ℕ) (x : ℤ) (old before new : List ℤ) → j < m.n_b → before ≡ old ++ map f (take j (slice_of m values slice))
-    → new ≡ before ++ x ∷ [] → x ≡ f (share_at m values slice (1 + j)) → new ≡ old ++ map f (take (j + 1) (slice_of m values slice))
-slice_more f m values slice j x old before new l e step is =
-    let parts = slice_of m values slice in
-    let none : WholeAndRest = record { whole = pos 0; rest = pos 0 } in
-    let read : get_or parts j none ≡ share_at m values slice (1 + j) = get_or-map-range_with_len (share_at m values slice) 1 m.n_b j (1 + j) none l refl in
-    let more : take (j + 1) parts ≡ take j parts ++ share_at m values slice (1 + j) ∷ [] =
-    take_more parts j none (omega (arith, l, length-slice_of m values slice)) ∙ ap (λ (p : WholeAndRest). take j parts ++ p ∷ []) read
+-- ---- what is appended target by target, and slice by slice
+pub target_more : {S : Type 0} (f : S → ℤ) (share : ℕ → S) (n j : ℕ) (none : S) (x : ℤ) (old before new : List ℤ) → j < n → before ≡ old ++ map f (take j (map share (range_with_len 1 n)))
+    → new ≡ before ++ x ∷ [] → x ≡ f (share (1 + j)) → new ≡ old ++ map f (take (j + 1) (map share (range_with_len 1 n)))
+target_more {S} f share n j none x old before new l e step is =
+    let shares = map share (range_with_len 1 n) in
+    let read : get_or shares j none ≡ share (1 + j) = get_or-map-range_with_len share 1 n j (1 + j) none l refl in
+    let more : take (j + 1) shares ≡ take j shares ++ share (1 + j) ∷ [] =
+    take_more shares j none (omega (arith, l, length-map-range_with_len share 1 n)) ∙ ap (λ (s : S). take j shares ++ s ∷ []) read
     in
-    step ∙ ap₂ (λ (xs : List ℤ) (y : ℤ). xs ++ y ∷ []) e is ∙ append_assoc old (map f (take j parts)) (f (share_at m values slice (1 + j)) ∷ [])
-    ∙ ap (λ (xs : List ℤ). old ++ xs) (sym (map-append f (take j parts) (share_at m values slice (1 + j) ∷ [])) ∙ ap (map f) (sym more))
+    step ∙ ap₂ (λ (xs : List ℤ) (y : ℤ). xs ++ y ∷ []) e is ∙ append_assoc old (map f (take j shares)) (f (share (1 + j)) ∷ [])
+    ∙ ap (λ (xs : List ℤ). old ++ xs) (sym (map-append f (take j shares) (share (1 + j) ∷ [])) ∙ ap (map f) (sym more))
 
-range_more : (first n : ℕ) → range_with_len first (n + 1) ≡ range_with_len first n ++ (first + n) ∷ []
-range_more first n =
-    sym (map-id (range_with_len first (n + 1))) ∙ map-range_with_len_more (λ (k : ℕ). k) first n (first + n) refl ∙ ap (λ (xs : List ℕ). xs ++ (first + n) ∷ []) (map-id (range_with_len first n))
+pub all_targets : {S : Type 0} (f : S → ℤ) (share : ℕ → S) (n j : ℕ) (old new : List ℤ) → n ≤ j → new ≡ old ++ map f (take j (map share (range_with_len 1 n))) → new ≡ old ++ map f (map share (range_with_len 1 n))
+all_targets {S} f share n j old new l e =
+    e ∙ ap (λ (xs : List S). old ++ map f xs) (take_all j (map share (range_with_len 1 n)) (omega (arith, l, length-map-range_with_len share 1 n)))
 
--- no slice, and one slice more
-pub no_slice : (f : WholeAndRest → ℤ) (m : MapParts) (values : List ℤ) → [] ≡ map f (application_of m 0 values)
-unfolding application_of
-no_slice f m values = refl
-
-pub one_slice : (f : WholeAndRest → ℤ) (m : MapParts) (values : List ℤ) (slice : ℕ) (before new : List ℤ) → before ≡ map f (application_of m slice values)
-    → new ≡ before ++ map f (slice_of m values slice) → new ≡ map f (application_of m (slice + 1) values)
-unfolding application_of
-one_slice f m values slice before new e step =
-    let next : 0 + slice ≡ slice = omega arith in
-    let more : flat_map (slice_of m values) (range_with_len 0 (slice + 1)) ≡ flat_map (slice_of m values) (range_with_len 0 slice) ++ slice_of m values slice =
-    ap (flat_map (slice_of m values)) (range_more 0 slice) ∙ flat_map-append (slice_of m values) (range_with_len 0 slice) ((0 + slice) ∷ [])
-    ∙ ap (λ (xs : List WholeAndRest). flat_map (slice_of m values) (range_with_len 0 slice) ++ xs) (append-nil (slice_of m values (0 + slice)) ∙ ap (slice_of m values) next)
-    in
-    step ∙ ap (λ (xs : List ℤ). xs ++ map f (slice_of m values slice)) e ∙ sym (map-append f (flat_map (slice_of m values) (range_with_len 0 slice)) (slice_of m values slice)) ∙ ap (map f) (sym more)
+pub slice_more : {S : Type 0} (f : S → ℤ) (slice_of : ℕ → List S) (slice : ℕ) (before new : List ℤ) → before ≡ map f (flat_map slice_of (range_with_len 0 slice)) → new ≡ before ++ map f (slice_of slice)
+    → new ≡ map f (flat_map slice_of (range_with_len 0 (slice + 1)))
+slice_more f slice_of slice before new e step =
+    step ∙ ap (λ (xs : List ℤ). xs ++ map f (slice_of slice)) e ∙ sym (map-append f (flat_map slice_of (range_with_len 0 slice)) (slice_of slice)) ∙ ap (map f) (sym (flat_range_more slice_of slice))

@@ -1,14 +1,10 @@
 -- The values of a field, which are whole numbers of 32 bits.
-use Rattle.std.specs.Prelude.{◌≡◌, ◌≢◌, ℕ, ◌-◌, ◌<◌, ◌≤◌, length, slice_index_or, ℤ, pos, negsuc, ◌≤ℤ◌, ◌<ℤ◌, ◌*ℤ◌, ◌+◌, ◌*◌, List}
+use Rattle.std.specs.Prelude.{◌≡◌, ◌≢◌, ℕ, ◌-◌, ◌<◌, ◌≤◌, length, slice_index_or, ℤ, pos, negsuc, ◌≤ℤ◌, ◌*ℤ◌, ◌+◌, ◌*◌, List}
 use Rattle.map_rows.specs.declared.rows.MapRow.{MapRow}
 
 -- fits 32 bits with sign
 abbrev pub IsInt32 : ℤ → Type 0
 IsInt32 x = (negsuc 2147483647 ≤ℤ x) × (x ≤ℤ pos 2147483647)
-
--- a measure is from 1 to the greatest one
-abbrev pub HasMeasure : MapRow → Type 0
-HasMeasure r = (pos 1 ≤ℤ r.s) × (r.s ≤ℤ pos 1099511627775)
 
 -- the slice that begins at place `first` has a value of the row's source
 abbrev pub HasValue : List ℤ → ℕ → MapRow → Type 0
@@ -29,7 +25,7 @@ pub record IsFirstAt (values : List ℤ) (x : ℤ) (place : ℕ) : Type 0 where
   pub here : slice_index_or values (place - 1) (pos 0) ≡ x
   pub before : HasNoneBefore values x (place - 1)
 
--- in this slice each rest is from 0 to below the area of its target
-abbrev pub HasRestsBelow : List ℤ → ℕ → List ℤ → Type 0
-HasRestsBelow areas slice rest =
-    (k : ℕ) → k < length areas → (pos 0 ≤ℤ slice_index_or rest (slice * length areas + k) (pos 0)) × (slice_index_or rest (slice * length areas + k) (pos 0) <ℤ slice_index_or areas k (pos 0))
+-- in this slice each rest is from 0 to the area of its target
+abbrev pub HasRestsWithin : List ℤ → ℕ → List ℤ → Type 0
+HasRestsWithin areas slice rest =
+    (k : ℕ) → k < length areas → (pos 0 ≤ℤ slice_index_or rest (slice * length areas + k) (pos 0)) × (slice_index_or rest (slice * length areas + k) (pos 0) ≤ℤ slice_index_or areas k (pos 0))

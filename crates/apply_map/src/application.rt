@@ -1,11 +1,11 @@
 // What a map makes of a field.
 ghost use Rattle.std.specs.Prelude.{◌≡◌, ◌+◌, ◌*◌, ◌≤◌, ◌++◌, pos, ◌≤ℤ◌, All, IfOk, IfErr, OnOk, length, map};
-ghost use Rattle.map_rows.specs.Maps.{total, measure_of};
+ghost use Rattle.map_rows.specs.Maps.{total, measure_of, HasMeasure};
 ghost use Rattle.map_rows.specs.Targets.{groups_of};
 ghost use Rattle.map_rows.specs.Application.{divided, slice_of, application_of, wholes_of, rests_of, source_mass_of, target_mass_of};
 ghost use Rattle.map_rows.specs.Laws.{KeepsConstants, KeepsBounds, IsFieldOf};
 ghost use Rattle.apply_map.specs.Fields.{field_of, IsApplyFaultOf};
-ghost use Rattle.apply_map.specs.Values.{HasMeasure, HasValue, carried};
+ghost use Rattle.apply_map.specs.Values.{HasValue, carried};
 ghost use Rattle.apply_map.specs.declared.fields.ApplyFault.TheVariants.{NoMemory as NoMemoryFault};
 
 use crate::sums::weighted_sum;

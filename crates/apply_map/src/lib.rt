@@ -12,4 +12,4 @@ mod tests;
 pub use application::apply;
 pub use fields::{ApplyFault, Field};
 pub use fill::fill_at;
-pub use masses::{source_mass, target_mass};
+pub use masses::{mass_of_slice, source_mass, target_mass};

@@ -3,7 +3,7 @@ ghost use Rattle.std.specs.Prelude.{◌≡◌, ℕ, ◌+◌, ◌*◌, ◌≤◌,
 ghost use Rattle.map_rows.specs.Maps.{total};
 ghost use Rattle.map_rows.specs.Application.{sum_over, area_at, value_at, source_mass_of, target_mass_of};
 ghost use Rattle.map_rows.specs.Laws.{IsFieldOf};
-ghost use Rattle.apply_map.specs.Values.{HasRestsBelow};
+ghost use Rattle.apply_map.specs.Values.{HasRestsWithin};
 
 use crate::Field;
 use map_rows::{Map, product};
@@ -40,20 +40,21 @@ pub fn source_mass(map: &Map, slices: u32, values: &[i32]) -> i128
 // What a target adds to a mass: area times whole part, plus rest.
 fn target_part(area: i64, whole: i32, rest: i64) -> i128
     requires least { pos 0 ≤ℤ rest }
-    requires below { rest <ℤ area }
+    requires below { rest ≤ℤ area }
     ensures value { result ≡ (area *ℤ whole) +ℤ rest }
     ensures size { unsigned_abs result ≤ 19807040628566084398385987584 }
 {
     product(area, whole) + i128::from(rest)
 }
 
-// The sum of area times whole part plus rest over the targets of one slice.
-fn target_slice_mass(areas: &[i64], slice: u32, whole: &[i32], rest: &[i64]) -> i128
+/// The sum of area times whole part plus rest over the targets of one slice, which counts from 0. It
+/// is at most 2^94 in size.
+pub fn mass_of_slice(areas: &[i64], slice: u32, whole: &[i32], rest: &[i64]) -> i128
     requires whole { (slice + 1) * length areas.now ≤ length whole.now }
     requires rest { (slice + 1) * length areas.now ≤ length rest.now }
     requires areas { All (λ area. pos 0 ≤ℤ area) areas.now }
     requires fit { total areas.now <ℤ pos (2 ^ 63) }
-    requires rests { HasRestsBelow areas.now slice rest.now }
+    requires rests { HasRestsWithin areas.now slice rest.now }
     ensures value { result ≡ sum_over 1 (length areas.now) (λ (j : ℕ). (area_at areas.now j *ℤ value_at whole.now (length areas.now) slice j) +ℤ value_at rest.now (length areas.now) slice j) }
     ensures size { unsigned_abs result ≤ 2 ^ 94 }
 {
@@ -75,7 +76,7 @@ pub fn target_mass(map: &Map, slices: u32, field: &Field) -> i128
     let rest: &[i64] = &field.rest.items;
     let mut mass = 0i128;
     for slice in 0..slices {
-        mass += target_slice_mass(areas, slice, whole, rest);
+        mass += mass_of_slice(areas, slice, whole, rest);
     }
     mass
 }

@@ -1,7 +1,7 @@
 // What the rows of a target carry over.
 ghost use Rattle.std.specs.Prelude.{◌≡◌, ◌≤◌, pos, negsuc, ◌*ℤ◌, ◌≤ℤ◌, All, length, map};
-ghost use Rattle.map_rows.specs.Maps.{total, measure_of};
-ghost use Rattle.apply_map.specs.Values.{HasMeasure, HasValue, carried};
+ghost use Rattle.map_rows.specs.Maps.{total, measure_of, HasMeasure};
+ghost use Rattle.apply_map.specs.Values.{HasValue, carried};
 
 use map_rows::{MapRow, product};
 

@@ -5,8 +5,8 @@ use Rattle.std.proofs.lemmas.Int.{ints}
 use Rattle.std.proofs.lemmas.List.{take_at, length-take-le}
 use Rattle.std.proofs.lemmas.List.Elements.{All-take, All-weaker}
 use Rattle.map_rows.specs.declared.rows.MapRow.{MapRow}
-use Rattle.map_rows.specs.Maps.{IsSoundRow, measure_of, sum_at, areas_of}
-use Rattle.map_rows.proofs.FaceSums.{HasMeasure, area_bounds, get_or-sums_of}
+use Rattle.map_rows.specs.Maps.{IsSoundRow, measure_of, sum_at, areas_of, HasMeasure}
+use Rattle.map_rows.proofs.FaceSums.{area_bounds, get_or-sums_of}
 
 pub measures : (n_a n_b : ℕ) (rows : List MapRow) → All (IsSoundRow n_a n_b) rows → All HasMeasure rows
 measures n_a n_b rows h = All-weaker (IsSoundRow n_a n_b) HasMeasure (λ r s. (s.least, s.greatest)) rows h

@@ -6,10 +6,10 @@ use Rattle.std.proofs.lemmas.Int.{ints}
 use Rattle.std.proofs.lemmas.List.{length-map, get_or-map}
 use Rattle.std.proofs.lemmas.List.Elements.{All-head, All-tail, All-weaker, All-get_or, All-filter}
 use Rattle.map_rows.specs.declared.rows.MapRow.{MapRow}
-use Rattle.map_rows.specs.Maps.{MapParts, IsSoundMap, total, measure_of, source_of, target_of, rows_of, sources_of, sum_at}
+use Rattle.map_rows.specs.Maps.{MapParts, IsSoundMap, total, measure_of, source_of, target_of, rows_of, sources_of, sum_at, HasMeasure}
 use Rattle.map_rows.specs.Application.{value_at, area_at, weighted_sum_of, divided, application_of, whole_of, rest_of}
 use Rattle.map_rows.specs.Laws.{EachSource, RestsBelow, ConstantsKept, BoundsKept}
-use Rattle.map_rows.proofs.FaceSums.{get_or-sums_of, length-sums_of, HasMeasure}
+use Rattle.map_rows.proofs.FaceSums.{get_or-sums_of, length-sums_of}
 use Rattle.map_rows.proofs.Exchange.{measures}
 use Rattle.map_rows.proofs.Masses.{part_in, length-application_of}
 use Rattle.map_rows.proofs.Products.{sum_times, zero_times, times_order, floor_parts, floor_least, floor_greatest}

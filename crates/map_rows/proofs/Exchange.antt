@@ -5,9 +5,9 @@ use Rattle.std.proofs.lemmas.Int.{ints}
 use Rattle.std.proofs.lemmas.List.Elements.{All-head, All-tail, All-weaker}
 use Rattle.vec_exact.proofs.Cycles.{below_same_above}
 use Rattle.map_rows.specs.declared.rows.MapRow.{MapRow}
-use Rattle.map_rows.specs.Maps.{MapParts, total, measure_of, sum_at, sums_of, areas_of, source_of, target_of, IsSoundRow, IsSoundMap, AreasFit}
+use Rattle.map_rows.specs.Maps.{MapParts, total, measure_of, sum_at, sums_of, areas_of, source_of, target_of, IsSoundRow, IsSoundMap, AreasFit, HasMeasure}
 use Rattle.map_rows.specs.Application.{sum_over}
-use Rattle.map_rows.proofs.FaceSums.{differ, HasMeasure, sum_at-none, sum_at-cons}
+use Rattle.map_rows.proofs.FaceSums.{differ, sum_at-none, sum_at-cons}
 
 pub sum_over_zero : (first count : ℕ) (f : ℕ → ℤ) → ((i : ℕ) → f i ≡ pos 0) → sum_over first count f ≡ pos 0
 unfolding total

@@ -8,7 +8,7 @@ use Rattle.std.proofs.lemmas.List.Elements.{All-head, All-tail}
 use Rattle.std.proofs.lemmas.List.FromFn.{length-map-range_with_len, get_or-map-range_with_len}
 use Rattle.vec_exact.proofs.Cycles.{below_same_above}
 use Rattle.map_rows.specs.declared.rows.MapRow.{MapRow}
-use Rattle.map_rows.specs.Maps.{total, measure_of, rows_of, sum_at, sums_of}
+use Rattle.map_rows.specs.Maps.{total, measure_of, rows_of, sum_at, sums_of, HasMeasure}
 
 total_one_more : (f : MapRow → ℤ) (b : Bool) (r : MapRow) (rows : List MapRow) → total (map f (cond b (r ∷ rows) rows)) ≡ cond b (f r) (pos 0) +ℤ total (map f rows)
 unfolding total
@@ -111,10 +111,6 @@ sum_size face_of f bound i (r ∷ rows) h =
       part_size (eqb (face_of r) i) (f r) bound (All-head (IsAtMost bound f) r rows h),
       sum_size face_of f bound i rows (All-tail (IsAtMost bound f) r rows h),
     )
-
--- a measure is from 1 to the greatest one
-abbrev pub HasMeasure : MapRow → Type 0
-HasMeasure r = (pos 1 ≤ℤ r.s) × (r.s ≤ℤ pos 1099511627775)
 
 measure_part : (b : Bool) (r : MapRow) → HasMeasure r → (pos 0 ≤ℤ cond b r.s (pos 0)) × (cond b r.s (pos 0) ≤ℤ pos 1099511627775)
 measure_part true r h = (omega (arith, ints, h.0), h.1)

@@ -2,9 +2,10 @@
 use Rattle.std.proofs.Common.{◌≡◌, ℕ, zero, suc, ◌+◌, ◌-◌, ◌*◌, ◌<◌, ◌≤◌, inl, inr, ℤ, pos, ◌+ℤ◌, ◌-ℤ◌, ◌*ℤ◌, Bool, cond, eqb, List, [], ◌∷◌, ◌++◌, length, map, get_or, ap, sym, ◌∙◌, refl, arith, eq-eqb}
 use Rattle.std.specs.List.{range_with_len, flat_map}
 use Rattle.std.proofs.lemmas.Int.{ints}
-use Rattle.std.proofs.lemmas.List.{get_or_append_left, get_or-append_right, get_or-map, length-append}
+use Rattle.std.proofs.lemmas.List.{get_or_append_left, get_or-append_right, get_or-map}
 use Rattle.std.proofs.lemmas.List.FromFn.{length-map-range_with_len, get_or-map-range_with_len}
 use Rattle.vec_exact.proofs.Cycles.{below_same_above}
+use Rattle.vec_exact.proofs.Ranges.{length_even}
 use Rattle.map_rows.specs.declared.rows.MapRow.{MapRow}
 use Rattle.map_rows.specs.Maps.{MapParts, IsSoundMap, total, measure_of, sum_at, source_of, target_of}
 use Rattle.map_rows.specs.Application.{WholeAndRest, sum_over, value_at, area_at, product_of, weighted_sum_of, share_at, slice_of, application_of, whole_of, rest_of, rests_of, source_mass_of, target_mass_of}
@@ -80,20 +81,15 @@ get_or-blocks f n first (suc count) (suc i) k d h l m =
     ∙ ap (λ (p : ℕ). get_or (flat_map f (range_with_len (first + 1) count)) p d) place ∙ get_or-blocks f n (first + 1) count i k d h (omega (arith, l)) m
     ∙ ap (λ (s : ℕ). get_or (f s) k d) next
 
-pub length-blocks : {A : Type 0} (f : ℕ → List A) (n first count : ℕ) → ((s : ℕ) → length (f s) ≡ n) → length (flat_map f (range_with_len first count)) ≡ count * n
-length-blocks f n first zero h = omega arith
-length-blocks f n first (suc count) h =
-    omega (arith, length-append (f first) (flat_map f (range_with_len (first + 1) count)), h first, length-blocks f n (first + 1) count h)
-
 pub length-slice_of : (m : MapParts) (values : List ℤ) (slice : ℕ) → length (slice_of m values slice) ≡ m.n_b
 length-slice_of m values slice = length-map-range_with_len (share_at m values slice) 1 m.n_b
 
 pub length-application_of : (m : MapParts) (slices : ℕ) (values : List ℤ) → length (application_of m slices values) ≡ slices * m.n_b
 unfolding application_of
-length-application_of m slices values = length-blocks (slice_of m values) m.n_b 0 slices (length-slice_of m values)
+length-application_of m slices values = length_even (slice_of m values) m.n_b 0 slices (λ i l h. length-slice_of m values i)
 
 -- no part, past the end
-abbrev no_share : WholeAndRest
+abbrev pub no_share : WholeAndRest
 no_share = record { whole = pos 0; rest = pos 0 }
 
 -- the number of slice and target in the application
@@ -105,7 +101,7 @@ application_at m slices values slice j l p q =
     ∙ ap (λ (s : ℕ). get_or (slice_of m values s) (j - 1) no_share) (let e : 0 + slice ≡ slice = omega arith in e)
     ∙ get_or-map-range_with_len (share_at m values slice) 1 m.n_b (j - 1) j no_share (omega (arith, p, q)) (omega (arith, p))
 
-place_within : (slices n slice k : ℕ) → slice < slices → k < n → slice * n + k < slices * n
+pub place_within : (slices n slice k : ℕ) → slice < slices → k < n → slice * n + k < slices * n
 place_within slices n slice k l m = grind arith
 
 pub part_in : (m : MapParts) (slices : ℕ) (values : List ℤ) (slice j : ℕ) (f : WholeAndRest → ℤ) → slice < slices → 1 ≤ j → j ≤ m.n_b

@@ -60,6 +60,10 @@ pub record IsSoundRow (n_a n_b : ℕ) (r : MapRow) : Type 0 where
   pub least : pos 1 ≤ℤ r.s
   pub greatest : r.s ≤ℤ pos 1099511627775
 
+-- the measure of a row is one of a piece
+abbrev pub HasMeasure : MapRow → Type 0
+HasMeasure r = (pos 1 ≤ℤ r.s) × (r.s ≤ℤ pos 1099511627775)
+
 -- a mesh may have this many faces
 abbrev pub IsFaceCount : ℕ → Type 0
 IsFaceCount n = (1 ≤ n) × (n ≤ 1048576)

@@ -1,15 +1,14 @@
-use Rattle.std.proofs.Common.{rules, ◌≡◌, ◌<◌, ◌+◌, ◌-◌, ◌*◌, ◌++◌, ◌≤ℤ◌, pos, ap, ◌≤◌, subst, sym, ◌∙◌, length, map, get_or, ℤ, List, arith}
+use Rattle.std.proofs.Common.{rules, ◌≡◌, ◌<◌, ◌+◌, ◌-◌, ◌*◌, ◌≤ℤ◌, pos, ap, subst, sym, ◌∙◌, length, map, get_or, ℤ, List, arith}
 use mir.Syntax.{w32, w64}
 use mir.Val.{SFits}
 use Rattle.std.proofs.lemmas.Int.{to_z-of_z}
-use Rattle.std.proofs.lemmas.List.{take_all}
 use Rattle.map_rows.specs.Maps.{IsSoundMap, total}
-use Rattle.map_rows.specs.Application.{WholeAndRest, divided, slice_of, whole_of, rest_of, wholes_of, rests_of}
-use Rattle.map_rows.proofs.Masses.{length-slice_of}
+use Rattle.map_rows.specs.Application.{divided, share_at, whole_of, rest_of}
+use Rattle.map_rows.proofs.Masses.{no_share}
 use Rattle.map_rows.specs.declared.rows.MapRow.{MapRow}
 use Rattle.map_rows.proofs.Groups.{length-groups_of}
 use Rattle.apply_map.specs.Values.{carried}
-use Rattle.apply_map.proofs.Slices.{size_of_areas, rows_at, slice_more}
+use Rattle.apply_map.proofs.Slices.{size_of_areas, rows_at, target_more, all_targets}
 use Rattle.apply_map.proofs.application.append_slice.Goals as goal
 
 pub overflow_cast-j : goal.overflow_cast-j
@@ -122,24 +121,20 @@ loop-j-preserved c =
     let share = ap (divided (total (map (carried values (slice * c.map-inside.inside.0.0)) c.of.result.now))) same ∙ h.share in
     let whole = to_z-of_z w32 c.target_share-share.result.whole w ∙ c.target_share-share.ensures.whole ∙ ap whole_of share in
     let rest = to_z-of_z w64 c.target_share-share.result.rest r ∙ c.target_share-share.ensures.rest ∙ ap rest_of share in (
-      slice_more whole_of m values slice j _ c.args.whole.now.items c.loop-j.whole.items c.push.new.self.items l c.loop-j.invariant.0 c.in_ok-push.ensures.items whole,
-      slice_more rest_of m values slice j _ c.args.rest.now.items c.loop-j.rest.items c.push-in-loop-j.new.self.items l c.loop-j.invariant.1 c.in_ok-push-2.ensures.items rest,
+      target_more whole_of (share_at m values slice) m.n_b j no_share _ c.args.whole.now.items c.loop-j.whole.items c.push.new.self.items l c.loop-j.invariant.0 c.in_ok-push.ensures.items whole,
+      target_more rest_of (share_at m values slice) m.n_b j no_share _ c.args.rest.now.items c.loop-j.rest.items c.push-in-loop-j.new.self.items l c.loop-j.invariant.1 c.in_ok-push-2.ensures.items rest,
     )
 
 pub returns-clause-whole : goal.returns-clause-whole
 returns-clause-whole c =
     let m = c.args.map.now in
-    let shares = slice_of m c.args.values.now c.args.slice in
     let sound : IsSoundMap m = subst IsSoundMap c.map.view_is c.map.invariant in
     let areas : c.deref-areas.result.now ≡ m.area_b = search rules in
-    let last : length shares ≤ c.loop-j.j = omega (arith, ap (length {A = ℤ}) areas, size_of_areas m sound, length-slice_of m c.args.values.now c.args.slice) in
-    c.loop-j.invariant.0 ∙ ap (λ (ps : List WholeAndRest). c.args.whole.now.items ++ wholes_of ps) (take_all c.loop-j.j shares last)
+    all_targets whole_of (share_at m c.args.values.now c.args.slice) m.n_b c.loop-j.j c.args.whole.now.items _ (omega (arith, c.loop-j-test.false, ap (length {A = ℤ}) areas, size_of_areas m sound)) c.loop-j.invariant.0
 
 pub returns-clause-rest : goal.returns-clause-rest
 returns-clause-rest c =
     let m = c.args.map.now in
-    let shares = slice_of m c.args.values.now c.args.slice in
     let sound : IsSoundMap m = subst IsSoundMap c.map.view_is c.map.invariant in
     let areas : c.deref-areas.result.now ≡ m.area_b = search rules in
-    let last : length shares ≤ c.loop-j.j = omega (arith, ap (length {A = ℤ}) areas, size_of_areas m sound, length-slice_of m c.args.values.now c.args.slice) in
-    c.loop-j.invariant.1 ∙ ap (λ (ps : List WholeAndRest). c.args.rest.now.items ++ rests_of ps) (take_all c.loop-j.j shares last)
+    all_targets rest_of (share_at m c.args.values.now c.args.slice) m.n_b c.loop-j.j c.args.rest.now.items _ (omega (arith, c.loop-j-test.false, ap (length {A = ℤ}) areas, size_of_areas m sound)) c.loop-j.invariant.1

@@ -1,23 +1,23 @@
 use Rattle.std.proofs.Common.{◌≡◌, ap, ap₂, subst, sym, ◌∙◌, ℕ, ℤ, List, arith}
 use Rattle.map_rows.specs.Maps.{IsSoundMap}
-use Rattle.map_rows.specs.Application.{application_of, whole_of, rest_of, wholes_of, rests_of, target_mass_of}
+use Rattle.map_rows.specs.Application.{slice_of, application_of, whole_of, rest_of, wholes_of, rests_of, target_mass_of}
 use Rattle.map_rows.specs.Laws.{KeepsConstants, KeepsBounds, IsFieldOf}
 use Rattle.map_rows.proofs.Masses.{equal_masses}
 use Rattle.map_rows.proofs.Bounds.{rests_below, constants_kept, bounds_kept}
-use Rattle.apply_map.proofs.Slices.{no_slice, one_slice}
+use Rattle.apply_map.proofs.Slices.{slice_more}
 use Rattle.apply_map.proofs.application.apply.Goals as goal
 
 pub loop-slice-init : goal.loop-slice-init
-loop-slice-init c = (
-  c.in_ok-whole.ensures.items ∙ no_slice whole_of c.args.map.now c.args.values.now,
-  c.in_ok-rest.ensures.items ∙ no_slice rest_of c.args.map.now c.args.values.now,
-)
+unfolding application_of
+loop-slice-init c = (c.in_ok-whole.ensures.items, c.in_ok-rest.ensures.items)
 
 pub loop-slice-preserved : goal.loop-slice-preserved
-loop-slice-preserved c = (
-  one_slice whole_of c.args.map.now c.args.values.now c.loop-slice.slice c.loop-slice.whole.items c.append_slice.new.whole.items c.loop-slice.invariant.0 c.in_ok-append_slice.ensures.whole,
-  one_slice rest_of c.args.map.now c.args.values.now c.loop-slice.slice c.loop-slice.rest.items c.append_slice.new.rest.items c.loop-slice.invariant.1 c.in_ok-append_slice.ensures.rest,
-)
+unfolding application_of
+loop-slice-preserved c =
+    let slices = slice_of c.args.map.now c.args.values.now in (
+      slice_more whole_of slices c.loop-slice.slice c.loop-slice.whole.items c.append_slice.new.whole.items c.loop-slice.invariant.0 c.in_ok-append_slice.ensures.whole,
+      slice_more rest_of slices c.loop-slice.slice c.loop-slice.rest.items c.append_slice.new.rest.items c.loop-slice.invariant.1 c.in_ok-append_slice.ensures.rest,
+    )
 
 pub returns-clause-field : goal.returns-clause-field
 returns-clause-field c =

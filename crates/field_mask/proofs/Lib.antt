@@ -1,0 +1,5 @@
+mod PresentSteps
+mod MaskedMasses
+mod Counting
+mod MaskedSlices
+mod MaskedLaws

@@ -1,0 +1,3 @@
+pub mod Masked
+pub mod Present
+pub mod Laws
