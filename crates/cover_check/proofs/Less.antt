@@ -42,7 +42,7 @@ inside_or_not face d =
     ]
 
 -- ---- the target itself
-some_inside : (P : Type 0) (n : ℕ) → P ⊎ ¬ P → (¬ P → n ≡ 0) → 0 < n → P
+pub some_inside : (P : Type 0) (n : ℕ) → P ⊎ ¬ P → (¬ P → n ≡ 0) → 0 < n → P
 some_inside P n (inl p) z l = p
 some_inside P n (inr o) z l = absurd (omega (arith, z o, l))
 
