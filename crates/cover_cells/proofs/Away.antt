@@ -1,23 +1,18 @@
 -- Source faces that a plane keeps away from a cell.
-use Rattle.std.proofs.Common.{◌≡◌, ◌≢◌, ℕ, ◌<◌, ℤ, pos, negsuc, neg_ℤ, ◌≤ℤ◌, ◌<ℤ◌, ◌⊎◌, ◌↔◌, inl, inr, Bool, true, false, List, length, arith, ap, sym, ◌∙◌, subst}
+use Rattle.std.proofs.Common.{◌≡◌, ℕ, ◌<◌, ℤ, pos, negsuc, neg_ℤ, ◌≤ℤ◌, ◌<ℤ◌, ◌↔◌, inl, inr, Bool, true, false, List, length, arith, subst}
 use Rattle.std.proofs.lemmas.Int.{ints}
-use Rattle.vec_exact.specs.declared.RawMesh.{RawMesh}
 use Rattle.vec_exact.specs.declared.Vec3.{Vec3}
 use Rattle.vec_exact.specs.Vector.{inner, scaled}
-use Rattle.vec_exact.specs.Cycle.{corner, Convex, vector_at, face_plane}
+use Rattle.vec_exact.specs.Cycle.{Convex, vector_at, face_plane}
 use Rattle.vec_exact.specs.Face.{IsAcceptedFace}
-use Rattle.vec_exact.proofs.Whole.{neg_times, one_times}
-use Rattle.vec_exact.proofs.Identities.{inner_turned, inner_scaled}
+use Rattle.vec_exact.proofs.Identities.{inner_turned}
 use Rattle.vec_exact.proofs.Signs.{by_strict_sign}
 use Rattle.vec_exact.proofs.Accepted.{accepted_convex, edge_nonzero}
 use Rattle.cone_laws.specs.Cone.{AllPositive}
 use Rattle.cone_laws.proofs.Inside.{cone_pos}
 use Rattle.cone_laws.proofs.LinearForms.{nonneg_in_closure}
-use Rattle.mesh_check.specs.Mesh.{corners_of}
-use Rattle.cover_cells.specs.declared.cells.CellPlane.{CellPlane}
-use Rattle.cover_cells.specs.Cells.{planes_of, IsCell, is_in_cell, IsBeyondAnEdge, IsAway}
+use Rattle.cover_cells.specs.Cells.{IsBeyondAnEdge}
 use Rattle.cover_cells.specs.Sides.{AreCorners, NonePositive}
-use Rattle.cover_cells.proofs.Positive.{positive_from}
 use Rattle.cover_cells.proofs.Rules.{closure_or_beyond}
 use Rattle.cover_cells.proofs.Leaving.{turned_side}
 

@@ -1,6 +1,6 @@
 -- Dividing a target: parts are replaced by smaller ones.
-use Rattle.std.proofs.Common.{◌≡◌, ◌≢◌, ℕ, zero, suc, ◌+◌, ◌<◌, ◌≤◌, ◌⊎◌, inl, inr, true, List, [], ◌∷◌, ◌++◌, length, map, arith, refl, sym, ap, ◌∙◌, subst, cond, append_assoc, slice_index, slice_index_or, length-append}
-use Rattle.std.specs.Prelude.{All, Any, IsTrue}
+use Rattle.std.proofs.Common.{◌≡◌, ◌≢◌, ℕ, zero, suc, ◌+◌, ◌<◌, ◌≤◌, ◌⊎◌, inl, inr, true, List, [], ◌∷◌, ◌++◌, length, map, arith, refl, sym, ap, ◌∙◌, subst, append_assoc, slice_index, slice_index_or}
+use Rattle.std.specs.Prelude.{All, Any}
 use Rattle.std.specs.List.{Contains}
 use Rattle.std.proofs.lemmas.List.{get_or_default, map-append}
 use Rattle.std.proofs.lemmas.List.Elements.{All-append, All-cons, All-contains, All-push, Contains-append_left, Contains-append_right, Contains-get_or, Contains-push}
@@ -10,7 +10,7 @@ use Rattle.vec_exact.proofs.Cycles.{same_or_not}
 use Rattle.cone_laws.specs.Inside.{IsInside}
 use Rattle.mesh_check.specs.Mesh.{corners_of}
 use Rattle.cover_cells.specs.declared.cells.CellPlane.{CellPlane}
-use Rattle.cover_cells.specs.Cells.{IsCell, IsSource, IsAway, IsBeyondAnEdge, IsOffEdges, is_in_cell, cells_with}
+use Rattle.cover_cells.specs.Cells.{IsCell, IsSource, IsAway, IsOffEdges, is_in_cell, cells_with}
 use Rattle.cover_cells.proofs.Counts.{cells_with-append}
 use Rattle.cover_check.specs.Parts.{PartView, with_faces, parts_with, IsSoundPart, IsPartOf, IsCellOf, IsDivided}
 

@@ -1,5 +1,5 @@
 -- What is put to the parts, or to the cells.
-use Rattle.std.proofs.Common.{◌≡◌, ℕ, zero, suc, ◌+◌, ◌<◌, ◌≤◌, ◌⊎◌, inl, inr, List, [], ◌∷◌, ◌++◌, length, map, arith, refl, sym, ap, ◌∙◌, subst, Some}
+use Rattle.std.proofs.Common.{◌≡◌, ℕ, zero, suc, ◌≤◌, ◌⊎◌, inl, inr, List, [], ◌∷◌, ◌++◌, length, map, arith, refl, sym, ap, ◌∙◌, subst, Some}
 use Rattle.std.specs.Prelude.{All}
 use Rattle.std.proofs.lemmas.List.{get_or_default, map-append}
 use Rattle.std.proofs.lemmas.List.Elements.{All-cons, All-contains, All-contains_itself, All-pop, All-push, Contains-get_or, Contains-push}
@@ -12,7 +12,7 @@ use Rattle.cover_cells.specs.Cells.{IsCell, cells_with}
 use Rattle.cover_cells.proofs.Counts.{counts_held, held_counts}
 use Rattle.cover_check.specs.Rest.{IsLess}
 use Rattle.cover_check.specs.Parts.{PartView, view_of, with_faces, IsSoundPart, IsWithin, IsPartOf, IsCellOf, IsDivided}
-use Rattle.cover_check.proofs.Less.{some_inside, inside_or_not}
+use Rattle.cover_check.proofs.Insides.{some_inside, inside_or_not}
 use Rattle.cover_check.proofs.Divided.{AreNear, spread_settled, spread_further}
 
 -- the cell is put to the cells where it has no face, else it is put to the parts

@@ -1,5 +1,5 @@
 -- Parts of a target, each with the source faces that may still meet it. Source: our own.
-use Rattle.std.specs.Prelude.{◌≡◌, ◌≢◌, ◌⊎◌, ℕ, ◌+◌, ◌<◌, ◌≤◌, List, length, map, All, Contains, IsTrue, slice_index}
+use Rattle.std.specs.Prelude.{◌≡◌, ◌⊎◌, ℕ, ◌+◌, ◌<◌, ◌≤◌, List, length, map, All, Contains, IsTrue, slice_index}
 use Rattle.vec_exact.specs.declared.RawMesh.{RawMesh}
 use Rattle.vec_exact.specs.declared.Vec3.{Vec3}
 use Rattle.cone_laws.specs.Inside.{IsInside}

@@ -1,4 +1,4 @@
-use Rattle.std.proofs.Common.{◌≡◌, ◌-◌, ◌+◌, ℕ, pos, ◌<ℤ◌, ◌≤ℤ◌, below_more, ap, ◌∙◌, subst, arith}
+use Rattle.std.proofs.Common.{◌≡◌, ◌-◌, ◌+◌, pos, ◌≤ℤ◌, below_more, ap, ◌∙◌, subst, arith}
 use Rattle.vec_exact.specs.declared.Vec3.{Vec3}
 use Rattle.vec_exact.specs.Vector.{inner}
 use Rattle.vec_exact.specs.Cycle.{vector_at}

@@ -1,11 +1,11 @@
-use Rattle.std.proofs.Common.{◌≡◌, ◌+◌, ◌<◌, ◌≤◌, ◌/◌, ℕ, List, [], ◌∷◌, ◌++◌, true, length, map, ap, sym, ◌∙◌, subst, arith, slice_index}
+use Rattle.std.proofs.Common.{◌≡◌, ◌/◌, ℕ, List, ◌++◌, true, length, map, ap, sym, subst, arith}
 use Rattle.std.specs.Prelude.{All, Any}
 use Rattle.vec_exact.specs.declared.Vec3.{Vec3}
 use Rattle.cone_laws.specs.Inside.{IsInside}
 use Rattle.mesh_check.specs.Mesh.{corners_of}
 use Rattle.cover_cells.specs.declared.cells.CellPlane.{CellPlane}
 use Rattle.cover_cells.specs.Cells.{IsOffEdges, is_in_cell, cells_with}
-use Rattle.cover_check.specs.Parts.{PartView, view_of, with_faces, IsDivided}
+use Rattle.cover_check.specs.Parts.{view_of, with_faces, IsDivided}
 use Rattle.cover_check.proofs.Divided.{cut_last}
 use Rattle.cover_check.proofs.parts.divide.Goals as goal
 

@@ -1,5 +1,4 @@
-use Rattle.std.proofs.Common.{ℕ, ◌+◌, List, [], ◌++◌, ◌∷◌, map, ap, sym, subst, append-nil, arith}
-use Rattle.std.specs.Prelude.{All}
+use Rattle.std.proofs.Common.{◌+◌, List, ◌++◌, map, subst, append-nil, arith}
 use Rattle.std.proofs.lemmas.List.{nil_from_length}
 use Rattle.mesh_check.specs.Mesh.{corners_of}
 use Rattle.cover_check.specs.declared.parts.Part.{Part}

@@ -1,11 +1,10 @@
-use Rattle.std.proofs.Common.{◌≡◌, ℕ, ◌+◌, ◌<◌, ◌≤◌, List, [], ◌∷◌, ◌++◌, length, map, ap, sym, ◌∙◌, subst, arith, slice_index, append-nil, Some}
+use Rattle.std.proofs.Common.{◌≡◌, ◌<◌, List, [], ◌∷◌, ◌++◌, length, map, ap, ◌∙◌, subst, arith, slice_index, append-nil, Some}
 use Rattle.std.specs.Prelude.{All}
 use Rattle.std.proofs.lemmas.List.{map-append, nil_from_length}
 use Rattle.std.proofs.lemmas.List.Elements.{All-contains, All-pop, Contains-push}
 use Rattle.mesh_check.specs.Mesh.{corners_of}
 use Rattle.cover_cells.specs.declared.cells.CellPlane.{CellPlane}
 use Rattle.cover_cells.specs.Cells.{IsCell, IsAway}
-use Rattle.cover_check.specs.declared.parts.Part.{Part}
 use Rattle.cover_check.specs.Parts.{PartView, view_of, with_faces, IsSoundPart, IsDivided}
 use Rattle.cover_check.proofs.Divided.{AreNear, are_near, sound_part}
 use Rattle.cover_check.proofs.PutParts.{IsPut, put_divided, put_sound}

@@ -1,4 +1,4 @@
-use Rattle.std.proofs.Common.{[], ◌++◌, List, map, ap, sym, subst, append-nil}
+use Rattle.std.proofs.Common.{[], ◌++◌, List, map, sym, subst, append-nil}
 use Rattle.mesh_check.specs.Mesh.{corners_of}
 use Rattle.cover_check.specs.declared.parts.Part.{Part}
 use Rattle.cover_check.specs.Parts.{PartView, view_of, with_faces, IsDivided}
