@@ -25,7 +25,7 @@ flipped (pos zero) = refl
 flipped (pos (suc n)) = sym (le-ltb (suc n) 0 (omega arith))
 flipped (negsuc n) = lt-ltb 0 (suc n) (omega arith)
 
-turned_side : (n d : Vec3) → inner (scaled (negsuc 0) n) d ≡ neg_ℤ (inner n d)
+pub turned_side : (n d : Vec3) → inner (scaled (negsuc 0) n) d ≡ neg_ℤ (inner n d)
 turned_side n d =
     inner_turned (scaled (negsuc 0) n) d ∙ inner_scaled (negsuc 0) d n ∙ neg_times (pos 1) (inner d n) ∙ ap neg_ℤ (one_times (inner d n) ∙ inner_turned d n)
 

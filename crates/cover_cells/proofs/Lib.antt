@@ -6,3 +6,5 @@ pub mod Leaving
 pub mod Rules
 pub mod WholeTarget
 pub mod ThreeCorners
+pub mod Away
+pub mod KeptFaces

@@ -1,6 +1,6 @@
 -- Cells: what is left of a target face, as rings of edge planes that may be turned round. The target is given by its nodes.
 -- Source: our own.
-use Rattle.std.specs.Prelude.{◌≡◌, ◌≢◌, ℕ, ◌+◌, ◌-◌, ◌<◌, ◌≤◌, pos, negsuc, ◌<ℤ◌, int_lt, nat_eq, Bool, false, ◌&&◌, if◌then◌else◌, List, [], ◌∷◌, length, map, All, count_by, slice_index_or}
+use Rattle.std.specs.Prelude.{◌≡◌, ◌≢◌, ℕ, ◌+◌, ◌-◌, ◌<◌, ◌≤◌, pos, negsuc, ◌<ℤ◌, int_lt, nat_eq, Bool, false, ◌&&◌, if◌then◌else◌, List, [], ◌∷◌, length, map, All, count_by, slice_index_or, IsTrue}
 use Rattle.std.specs.List.{list_all}
 use Rattle.vec_exact.specs.declared.RawMesh.{RawMesh}
 use Rattle.vec_exact.specs.declared.Vec3.{Vec3}
@@ -31,6 +31,10 @@ pub record IsNamed (sources : RawMesh) (target : List Vec3) (p : CellPlane) : Ty
 abbrev pub IsCellRing : RawMesh → List Vec3 → List CellPlane → Type 0
 IsCellRing sources target cell = let planes = planes_of sources target cell in Convex (length planes) (vector_at planes)
 
+-- i is the number of a face of the source mesh
+abbrev pub IsSource : RawMesh → ℕ → Type 0
+IsSource sources i = (1 ≤ i) × (i ≤ length sources.faces)
+
 -- a ring of planes that are there
 pub record IsCell (sources : RawMesh) (target : List Vec3) (cell : List CellPlane) : Type 0 where
   pub ring : IsCellRing sources target cell
@@ -51,6 +55,10 @@ cells_with sources target d cells = count_by (is_in_cell sources target d) cells
 -- an edge plane of the face is negative on d
 abbrev pub IsBeyondAnEdge : List Vec3 → Vec3 → Type 0
 IsBeyondAnEdge face d = (t : ℕ) × t < length face × inner (face_plane face t) d <ℤ pos 0
+
+-- each direction in the cell is beyond an edge of source face i
+abbrev pub IsAway : RawMesh → List Vec3 → List CellPlane → ℕ → Type 0
+IsAway sources target cell i = (d : Vec3) → IsTrue (is_in_cell sources target d cell) → IsBeyondAnEdge (corners_of sources i) d
 
 -- no edge plane of the face is zero on d
 abbrev pub IsOffEdges : List Vec3 → Vec3 → Type 0

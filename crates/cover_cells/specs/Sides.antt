@@ -16,6 +16,15 @@ pub record AreSides (planes : List Vec3) (x : Vec3) (sides : List ℤ) : Type 0 
   pub len : length sides ≡ length planes
   pub each : (t : ℕ) → t < length planes → side_at sides t ≡ inner x (corner (length planes) (vector_at planes) t)
 
+-- the corners of the planes, in order
+pub record AreCorners (planes corners : List Vec3) : Type 0 where
+  pub len : length corners ≡ length planes
+  pub each : (t : ℕ) → t < length planes → vector_at corners t ≡ corner (length planes) (vector_at planes) t
+
+-- the plane x is positive on none of these triples
+abbrev pub NonePositive : Vec3 → List Vec3 → Type 0
+NonePositive x triples = (t : ℕ) → t < length triples → inner x (vector_at triples t) ≤ℤ pos 0
+
 -- from place first on, count numbers are positive, cyclically; the next one and the one before the first are not, and some number is negative
 pub record IsRun (sides : List ℤ) (first count : ℕ) : Type 0 where
   pub within : first < length sides

@@ -1,20 +1,19 @@
 -- What all candidates leave of a target is what all faces of the mesh leave of it.
-use Rattle.std.proofs.Common.{◌≡◌, ℕ, zero, suc, ◌+◌, ◌-◌, ◌<◌, ◌≤◌, ℤ, pos, ◌≤ℤ◌, ◌<ℤ◌, List, [], ◌∷◌, length, arith, ap, refl, sym, ◌∙◌, ◌⊎◌, inl, inr, subst, true, slice_index, slice_index_or, ◌↔◌}
+use Rattle.std.proofs.Common.{◌≡◌, ℕ, zero, suc, ◌-◌, ◌<◌, ◌≤◌, ℤ, pos, ◌≤ℤ◌, ◌<ℤ◌, List, [], ◌∷◌, length, arith, ap, refl, sym, ◌∙◌, ◌⊎◌, inl, inr, subst, slice_index, slice_index_or}
 use Rattle.std.specs.Prelude.{All}
 use Rattle.std.specs.List.{Contains}
 use Rattle.std.proofs.lemmas.Int.{ints}
 use Rattle.std.proofs.lemmas.List.{get_or_default}
 use Rattle.vec_exact.specs.declared.RawMesh.{RawMesh}
 use Rattle.vec_exact.specs.declared.Vec3.{Vec3}
-use Rattle.vec_exact.specs.Vector.{inner}
-use Rattle.vec_exact.specs.Cycle.{vector_at, face_plane}
+use Rattle.vec_exact.specs.Cycle.{vector_at}
 use Rattle.vec_exact.specs.Face.{IsAcceptedFace, IsAccepted}
 use Rattle.vec_exact.proofs.Cycles.{same_or_not}
 use Rattle.cone_laws.specs.Inside.{IsInside, IsInClosure, Meets}
 use Rattle.cone_laws.proofs.Inside.{center, center_inside}
-use Rattle.mesh_check.specs.Mesh.{IsAcceptedMesh, corners_of}
+use Rattle.mesh_check.specs.Mesh.{corners_of}
 use Rattle.cover_cells.specs.declared.cells.CellPlane.{CellPlane}
-use Rattle.cover_cells.specs.Cells.{IsCell, planes_of, is_in_cell, cells_with, IsBeyondAnEdge, IsOffEdges}
+use Rattle.cover_cells.specs.Cells.{IsCell, planes_of, cells_with, IsBeyondAnEdge}
 use Rattle.cover_cells.specs.Coverage.{IsInSomeClosure, IsCovered, IsUncoveredDirection}
 use Rattle.cover_cells.proofs.Counts.{counts_held}
 use Rattle.cover_cells.proofs.Positive.{positive_to}

@@ -1,5 +1,7 @@
 pub mod Nudge
 pub mod Moved
 pub mod LeftOver
-pub mod Less
+pub mod Insides
+pub mod Divided
+pub mod PutParts
 pub mod Targets

@@ -1,5 +1,5 @@
 -- All edge planes of a target and of the faces of a mesh, and directions that are moved a little beside them.
-use Rattle.std.proofs.Common.{◌≡◌, ◌≢◌, ℕ, zero, suc, ◌+◌, ◌-◌, ◌<◌, ◌≤◌, ℤ, pos, ◌≤ℤ◌, ◌<ℤ◌, List, [], ◌∷◌, ◌++◌, length, arith, ap, refl, sym, ◌∙◌, ◌⊎◌, inl, inr, subst, slice_index_or, length-append}
+use Rattle.std.proofs.Common.{◌≡◌, ◌≢◌, ℕ, zero, suc, ◌+◌, ◌-◌, ◌<◌, ◌≤◌, ℤ, pos, ◌≤ℤ◌, ◌<ℤ◌, List, [], ◌∷◌, ◌++◌, length, arith, ap, refl, sym, ◌∙◌, inl, inr, subst, slice_index_or, length-append}
 use Rattle.std.specs.Prelude.{All}
 use Rattle.std.proofs.lemmas.Int.{ints}
 use Rattle.std.proofs.lemmas.List.{get_or_append_left, get_or-append_right}
@@ -16,10 +16,10 @@ use Rattle.cone_laws.specs.Ring.{face_planes, planes_of_pair, plane}
 use Rattle.cone_laws.proofs.FaceEdges.{face_convex}
 use Rattle.cone_laws.proofs.Inside.{center, center_inside}
 use Rattle.cone_laws.proofs.Pairs.{length-face_planes, face_planes_at, length-planes_of_pair, first_plane, second_plane}
-use Rattle.mesh_check.specs.Mesh.{IsAcceptedMesh, corners_of}
-use Rattle.cover_cells.specs.Cells.{IsBeyondAnEdge, IsOffEdges}
+use Rattle.mesh_check.specs.Mesh.{corners_of}
+use Rattle.cover_cells.specs.Cells.{IsBeyondAnEdge}
 use Rattle.cover_check.specs.Rest.{IsOffAllEdges}
-use Rattle.cover_check.proofs.Nudge.{Nudged, nudge, Generic, generic}
+use Rattle.cover_check.proofs.Nudge.{nudge, generic}
 
 -- ---- the planes of all faces in one list
 abbrev planes_of_faces : List (List ℤ) → List (List ℤ) → List Vec3

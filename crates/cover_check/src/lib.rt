@@ -5,6 +5,7 @@
 #![tactic(auto)]
 
 mod counting;
+mod parts;
 mod rest;
 #[cfg(test)]
 mod tests;

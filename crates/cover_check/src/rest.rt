@@ -4,27 +4,33 @@ ghost use Rattle.vec_exact.specs.declared.Vec3.{Vec3 as Direction};
 ghost use Rattle.vec_exact.specs.Size.{Within};
 ghost use Rattle.mesh_check.specs.Mesh.{corners_of};
 ghost use Rattle.cell_index.specs.IndexOf.{IsIndexOf};
-ghost use Rattle.cover_cells.specs.Cells.{IsCell, cells_with};
+ghost use Rattle.cover_cells.specs.Cells.{IsCell, IsSource, cells_with};
 ghost use Rattle.cover_cells.specs.Coverage.{IsCovered, IsUncoveredDirection};
 ghost use Rattle.cover_check.specs.Rest.{IsFilled, IsOffAllEdges, IsLess, IsRest};
 
+use crate::parts::{divided, whole};
 use cell_index::{Index, find_candidates};
-use cover_cells::{Cells, cut_cells, inner_direction, whole_target};
+use cover_cells::{Cells, inner_direction};
 use mesh_check::{Mesh, edge_count, face_count};
 use std::alloc::Global;
 use vec_exact::{NoMemory, Vec3};
 
-// Target j less the source faces with these numbers.
+// Target j less the source faces with these numbers: divided again and again by one of the faces
+// that may still meet a part, until none may.
 fn less(alloc: Global, a: &Mesh, b: &Mesh, j: u32, faces: &[u32]) -> Result<Cells, NoMemory>
     requires target { (1 ≤ j) × (j ≤ length b.now.faces) }
-    requires sources { All (λ i. (1 ≤ i) × (i ≤ length a.now.faces)) faces.now }
+    requires sources { All (IsSource a.now) faces.now }
     ensures { IfOk result (IsLess a.now (corners_of b.now j) faces.now) }
 {
-    let mut cells = whole_target(alloc, b, j)?;
-    for i in faces {
-        cells = cut_cells(alloc, a, b, j, &cells, *i)?;
+    let mut left = Cells {
+        items: Vec::new(alloc),
+    };
+    let mut parts = whole(alloc, a, b, j, faces, &mut left)?;
+    // Each time a part has fewer faces.
+    for _time in 0..faces.len() {
+        parts = divided(alloc, a, b, j, parts, &mut left)?;
     }
-    Ok(cells)
+    Ok(left)
 }
 
 // What the faces of a leave of target j. The candidates are put into `found`, in place of what it

@@ -1,24 +1,23 @@
 -- A search among directed edges that ascend strictly, and what is counted of them.
-use Rattle.std.proofs.Common.{◌≡◌, ◌≢◌, ◌∙◌, ◌+◌, ◌≤◌, ◌<◌, ℕ, zero, suc, ℤ, Bool, true, false, List, [], length, get_or, ◌⊎◌, inl, inr, refl, sym, ap, arith, Result, Ok, Err, subst}
-use Rattle.std.specs.Prelude.{All, not, count_by}
+use Rattle.std.proofs.Common.{◌≡◌, ◌≢◌, ◌∙◌, ◌+◌, ◌≤◌, ◌<◌, ℕ, ℤ, Bool, true, false, List, [], length, get_or, ◌⊎◌, inl, inr, refl, sym, ap, arith, Result, Ok, Err, subst}
+use Rattle.std.specs.Prelude.{not, count_by}
 use Rattle.std.specs.Result.{is_ok}
-use Rattle.std.specs.List.{Contains, AllPairs, dedup, filter, list_any}
+use Rattle.std.specs.List.{Contains, AllPairs, dedup, filter}
 use Rattle.std.specs.List.Sorted.{IsBinarySearchResult, IsNonDecreasingBy, IsPermutation, IsSearchInRange, IsSorted, IsStrictlySortedBy}
 use Rattle.std.specs.Ordering.{int_cmp, int_eq, eq_by_cmp, is_eq, is_lt, ordering_index, ordering_reverse}
 use Rattle.std.specs.Cmp.Lexicographic.{pointwise, slice_cmp, lists_ties}
 use Rattle.std.specs.Cmp.Rules.{signed_items}
 use Rattle.std.specs.declared.cmp.Ordering.{Ordering}
 use Rattle.std.specs.declared.cmp.Ordering.TheVariants.{Less, Equal, Greater}
-use Rattle.std.proofs.lemmas.Bool.{false_from_ne_true}
 use Rattle.std.proofs.lemmas.Cmp.{int_cmp_total, int_eq_equiv, lists_equiv, lists_total}
 use Rattle.std.proofs.lemmas.List.{get_or_default}
-use Rattle.std.proofs.lemmas.List.Folds.{Any-from_list_any, list_any-from_Any, list_any_at, list_any_none}
+use Rattle.std.proofs.lemmas.List.Folds.{Any-from_list_any, list_any_at, list_any_none}
 use Rattle.std.proofs.lemmas.List.Kept.{AllPairs-filter, Contains-dedup, Contains-from_dedup, IsStrictlySortedBy-dedup}
 use Rattle.std.proofs.lemmas.List.Sorted.{Contains-permutation, IsPermutation-sym, searchable_from_sorted}
 use Rattle.std.proofs.lemmas.List.Sums.{length-filter}
 use Rattle.std.proofs.lemmas.Map.Keys.{Less-from_sorted}
 use Rattle.vec_exact.specs.declared.RawMesh.{RawMesh}
-use Rattle.mesh_partition.specs.Edges.{reverse_edge, edges_of, IsEdge, IsUnpaired, ListsEdges, IsEdgeCount}
+use Rattle.mesh_partition.specs.Edges.{reverse_edge, edges_of, IsEdge, IsUnpaired, IsEdgeCount}
 use Rattle.mesh_partition.specs.SortedEdges.{is_among, is_alone_among}
 use Rattle.mesh_partition.proofs.Filtered.{filter_has, filter_from}
 

@@ -1,7 +1,7 @@
 -- The pairs of faces that overlap, among those that meet.
-use Rattle.std.proofs.Common.{◌≡◌, ℕ, ◌+◌, ◌<◌, Bool, true, List, [], ◌∷◌, cond, refl, length, arith, ap, sym, ◌∙◌, map}
-use Rattle.std.specs.Prelude.{All, nat_lt, count_by}
-use Rattle.std.specs.List.{Contains, filter}
+use Rattle.std.proofs.Common.{◌≡◌, ℕ, Bool, List, [], ◌∷◌, cond, refl, arith, sym, ◌∙◌, map}
+use Rattle.std.specs.Prelude.{nat_lt, count_by}
+use Rattle.std.specs.List.{filter}
 use Rattle.std.proofs.lemmas.Bool.{lt-ltb, ltb-true}
 use Rattle.std.proofs.lemmas.List.Elements.{All-filter, filter_passes}
 use Rattle.std.proofs.lemmas.List.Kept.{AllPairs-filter}

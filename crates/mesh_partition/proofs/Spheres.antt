@@ -1,10 +1,10 @@
 -- What covers the six faces covers the sphere.
-use Rattle.std.proofs.Common.{◌≡◌, ◌≢◌, ◌↔◌, ℕ, zero, suc, true, eqb, ◌+◌, ◌-◌, ◌<◌, ◌≤◌, ℤ, pos, ◌≤ℤ◌, ◌<ℤ◌, List, length, arith, ap, refl, sym, ◌∙◌, ◌⊎◌, inl, inr, subst}
+use Rattle.std.proofs.Common.{◌≡◌, ◌↔◌, ℕ, zero, suc, true, eqb, ◌-◌, ◌<◌, ◌≤◌, ℤ, pos, ◌≤ℤ◌, ◌<ℤ◌, length, arith, ap, refl, sym, ◌∙◌, inl, inr, subst}
 use Rattle.std.proofs.lemmas.Int.{ints}
 use Rattle.std.proofs.lemmas.Bool.{eq-eqb, eqb-true}
 use Rattle.vec_exact.specs.declared.RawMesh.{RawMesh}
 use Rattle.vec_exact.specs.declared.Vec3.{Vec3}
-use Rattle.vec_exact.specs.Vector.{zero_triple, inner}
+use Rattle.vec_exact.specs.Vector.{inner}
 use Rattle.vec_exact.specs.Cycle.{face_plane}
 use Rattle.vec_exact.proofs.Cycles.{below_same_above}
 use Rattle.vec_exact.proofs.Signs.{by_strict_sign}
@@ -12,12 +12,12 @@ use Rattle.vec_exact.proofs.Identities.{inner_zero}
 use Rattle.cone_laws.specs.Inside.{IsInside, IsInClosure}
 use Rattle.mesh_check.specs.Mesh.{corners_of}
 use Rattle.cover_cells.specs.Cells.{IsBeyondAnEdge}
-use Rattle.cover_cells.specs.Coverage.{IsInSomeClosure, IsCovered}
+use Rattle.cover_cells.specs.Coverage.{IsCovered}
 use Rattle.cover_check.proofs.Moved.{moved}
 use Rattle.cover_check.proofs.LeftOver.{beyond_not_closure, closure_or_beyond_all}
 use Rattle.gen_cs.specs.CubedSphere.{cubed_sphere}
 use Rattle.clip.specs.Planes.{IsFaceNumber}
-use Rattle.overlap_run.specs.Pairs.{FacePair, DoMeet, IsCountOf}
+use Rattle.overlap_run.specs.Pairs.{IsCountOf}
 use Rattle.cover_check.specs.declared.counting.CoverCount.{CoverCount}
 use Rattle.cover_check.specs.CoveredTargets.{IsCoverCount}
 use Rattle.mesh_partition.specs.Sphere.{CoversSphere, TilesSphere, SixFacesDecide}

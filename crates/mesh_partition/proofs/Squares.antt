@@ -1,5 +1,5 @@
 -- The six faces of the smallest cubed sphere, by their nodes and by their planes.
-use Rattle.std.proofs.Common.{◌≡◌, ℕ, zero, suc, ◌+◌, ◌-◌, ◌<◌, ◌≤◌, ℤ, pos, negsuc, ◌≤ℤ◌, ◌<ℤ◌, List, [], ◌∷◌, length, arith, refl, ap, sym, ◌∙◌, subst, lit<, lit≤}
+use Rattle.std.proofs.Common.{◌≡◌, ℕ, zero, suc, ◌<◌, pos, negsuc, ◌≤ℤ◌, ◌<ℤ◌, List, [], ◌∷◌, length, arith, refl, sym, subst, lit<, lit≤}
 use Rattle.vec_exact.specs.declared.Vec3.{Vec3}
 use Rattle.vec_exact.specs.declared.panels.Panel.{Panel}
 use Rattle.vec_exact.specs.declared.panels.Panel.TheVariants.{PlusX, PlusY, MinusX, MinusY, PlusZ, MinusZ}
@@ -7,7 +7,7 @@ use Rattle.vec_exact.specs.Vector.{inner}
 use Rattle.vec_exact.specs.Cycle.{after, vector_at, face_plane}
 use Rattle.cone_laws.specs.Inside.{IsInside, IsInClosure}
 use Rattle.mesh_check.specs.Mesh.{corners_of}
-use Rattle.gen_cs.specs.CubedSphere.{cubed_sphere, nodes_of, faces_of, face_at}
+use Rattle.gen_cs.specs.CubedSphere.{cubed_sphere, nodes_of, face_at}
 use Rattle.gen_cs.proofs.AcceptedFaces.{face_is_square}
 use Rattle.gen_cs.proofs.Squares.{panel_square}
 use Rattle.mesh_partition.proofs.Panels.{panel, IsInsidePlanes, IsWithinPlanes}

@@ -1,9 +1,8 @@
 -- Directed edges in strictly ascending order, and which of them have no reverse among them.
-use Rattle.std.specs.Prelude.{◌↔◌, ℕ, ℤ, Bool, not, List, Contains}
+use Rattle.std.specs.Prelude.{ℤ, Bool, not, List}
 use Rattle.std.specs.List.{list_any}
-use Rattle.std.specs.List.Sorted.{IsStrictlySortedBy}
-use Rattle.std.specs.Ordering.{int_cmp, int_eq}
-use Rattle.std.specs.Cmp.Lexicographic.{pointwise, slice_cmp}
+use Rattle.std.specs.Ordering.{int_eq}
+use Rattle.std.specs.Cmp.Lexicographic.{pointwise}
 use Rattle.mesh_partition.specs.Edges.{reverse_edge}
 
 -- one of the edges is this one

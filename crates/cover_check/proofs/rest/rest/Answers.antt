@@ -1,7 +1,6 @@
-use Rattle.std.proofs.Common.{◌≡◌, ◌≤◌, ◌<◌, ℕ, List, length, ap, sym, ◌∙◌, subst, arith, slice_index, slice_index_or}
+use Rattle.std.proofs.Common.{◌≡◌, ℕ, List, length, ap, sym, ◌∙◌, subst, arith, slice_index, slice_index_or}
 use Rattle.std.proofs.lemmas.List.{get_or_default}
 use Rattle.std.proofs.lemmas.Result.{IfOk-weaker}
-use Rattle.vec_exact.specs.Face.{IsAcceptedFace}
 use Rattle.std.specs.List.{Contains}
 use Rattle.vec_exact.specs.declared.RawMesh.{RawMesh}
 use Rattle.mesh_check.specs.Mesh.{corners_of}

@@ -1,4 +1,4 @@
-use Rattle.std.proofs.Common.{◌≡◌, ◌<◌, List, true, length, slice_index_or, ap, sym, ◌∙◌, subst, arith}
+use Rattle.std.proofs.Common.{◌≡◌, List, true, length, slice_index_or, ap, ◌∙◌, subst, arith}
 use Rattle.mesh_check.specs.Mesh.{corners_of}
 use Rattle.cover_cells.specs.declared.cells.CellPlane.{CellPlane}
 use Rattle.cover_cells.specs.Cells.{is_in_cell}

@@ -1,4 +1,4 @@
-use Rattle.std.proofs.Common.{rules, ◌++◌, length, length-append, map, ap, arith}
+use Rattle.std.proofs.Common.{rules, length, length-append, map, ap, arith}
 use Rattle.std.specs.List.{range_with_len}
 use Rattle.std.proofs.lemmas.List.FromFn.{length-map-range_with_len}
 use Rattle.gen_cs.proofs.Ranges.{map_behind}
