@@ -1,0 +1,9 @@
+pub mod EachOnce
+pub mod FieldForm
+pub mod FieldLeads
+pub mod FieldValues
+pub mod FieldFrames
+pub mod FileBounds
+pub mod FoundFields
+pub mod ShortHeaders
+pub mod SomeBytes

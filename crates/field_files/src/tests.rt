@@ -1,0 +1,185 @@
+// Files of other hands: fields with records, with dimensions that lead twice, and with fill values; and the
+// documents of what is made of them. The bytes are spelled by hand, by the netCDF classic format specification.
+ghost use Rattle.std.specs.Prelude.{◌≡◌, ◌≤◌, ℕ, length, IfOk};
+ghost use Rattle.nc_format.specs.Header.{IsHeader};
+ghost use Rattle.nc_format.specs.Sound.{IsSound};
+ghost use Rattle.nc_write.specs.Form.{IsWellFormed};
+ghost use Rattle.field_files.specs.FileHeader.{IsFileHeader};
+ghost use Rattle.field_files.specs.FieldShapes.{Fits};
+
+use crate::{FieldVar, field_doc, find_field, fit_field, read_field};
+use nc_format::{NcFile, read_header};
+use nc_write::{NcDoc, length_of};
+use std::test::*;
+use vec_exact::{Ints, Longs};
+
+// Three records of `x(t, k)`, INT, with k of length 2: -1 1, -5 1, -5 0.
+const THREE_RECORDS: &str = "\
+    43444601000000030000000a00000002000000017400000000000000000000016b00000000000002\
+    00000000000000000000000b00000001000000017800000000000002000000000000000100000000\
+    00000000000000040000000800000060ffffffff00000001fffffffb00000001fffffffb00000000";
+
+// The same without a record.
+const NO_RECORD: &str = "\
+    43444601000000000000000a00000002000000017400000000000000000000016b00000000000002\
+    00000000000000000000000b00000001000000017800000000000002000000000000000100000000\
+    00000000000000040000000800000060";
+
+// `x(k)`, INT, with k of length 8: 1 to 8.
+const OCTANTS: &str = "\
+    43444601000000000000000a00000001000000016b0000000000000800000000000000000000000b\
+    00000001000000017800000000000001000000000000000000000000000000040000002000000050\
+    0000000100000002000000030000000400000005000000060000000700000008";
+
+// The dimensions lat 2, lon 3, t (one record) and n_b 2. `x(lat, lon)`, BYTE, is 1 to 6 and has the fill
+// values 7, SHORT, and -1, BYTE; `y(lat, lat, lon)`, SHORT, is 1 to 12 and has -5, SHORT. `z(lon)` is FLOAT.
+// `u` has no dimension; `w(n_b, lon)` and `r(t)` are BYTE.
+const MIXED: &str = "\
+    43444601000000010000000a00000004000000036c61740000000002000000036c6f6e0000000003\
+    000000017400000000000000000000036e5f62000000000200000000000000000000000b00000006\
+    00000001780000000000000200000000000000010000000c000000020000000a5f46696c6c56616c\
+    756500000000000300000001000700000000000a5f46696c6c56616c756500000000000100000001\
+    ff000000000000010000000800000188000000017900000000000003000000000000000000000001\
+    0000000c000000010000000a5f46696c6c56616c756500000000000300000001fffb000000000003\
+    0000001800000190000000017a00000000000001000000010000000000000000000000050000000c\
+    000001a800000001750000000000000000000000000000000000000400000004000001b400000001\
+    7700000000000002000000030000000100000000000000000000000100000008000001b800000001\
+    72000000000000010000000200000000000000000000000100000004000001c00102030405068181\
+    000100020003000400050006000700080009000a000b000c3f800000400000004040000000000009\
+    010203040506818107";
+
+fn digit(digit: u8) -> u8
+    ensures { result < 16 }
+{
+    match digit {
+        b'0'..=b'9' => digit - b'0',
+        b'a'..=b'f' => digit - b'a' + 10,
+        _ => 0,
+    }
+}
+
+// The bytes of hexadecimal digits.
+fn bytes_of(rt: &HostRuntime, digits: &str) -> Result<Vec<u8>, Fail>
+    ensures { IfOk result (λ bytes. length bytes.items ≤ 1000) }
+{
+    let mut bytes = Vec::new(rt.alloc());
+    for pair in digits.as_bytes().chunks_exact(2) {
+        bytes.push(16 * digit(pair[0]) + digit(pair[1]))?;
+    }
+    if bytes.len() > 1000 {
+        return Err("too many bytes".into());
+    }
+    Ok(bytes)
+}
+
+fn header_of(rt: &HostRuntime, bytes: &[u8]) -> Result<NcFile, Fail>
+    requires { length bytes.now ≤ 2147483647 }
+    ensures file { IfOk result IsFileHeader }
+    ensures sound { IfOk result IsSound }
+    ensures header { IfOk result (λ file. IsHeader bytes.now (length bytes.now) file) }
+{
+    match read_header(rt.alloc(), bytes, bytes.len() as u64) {
+        Ok(file) => Ok(file),
+        Err(_) => Err("a header was expected".into()),
+    }
+}
+
+fn fitted(file: &NcFile, name: &[u8], n_a: u32) -> Result<FieldVar, Fail>
+    requires file { IsFileHeader file.now }
+    requires sound { IsSound file.now }
+    ensures { IfOk result (Fits file.now n_a) }
+{
+    let Ok(place) = find_field(file, name) else {
+        return Err("a variable was expected".into());
+    };
+    match fit_field(file, place, n_a) {
+        Ok(field) => Ok(field),
+        Err(_) => Err("a fit was expected".into()),
+    }
+}
+
+fn ints(rt: &HostRuntime, numbers: &[i32]) -> Result<Ints, Fail>
+    ensures { IfOk result (λ ints. ints ≡ numbers.now) }
+{
+    Ok(Ints {
+        items: numbers.to_vec(rt.alloc())?,
+    })
+}
+
+fn longs(rt: &HostRuntime, numbers: &[i64]) -> Result<Longs, Fail>
+    ensures { IfOk result (λ longs. longs ≡ numbers.now) }
+{
+    Ok(Longs {
+        items: numbers.to_vec(rt.alloc())?,
+    })
+}
+
+// The document of a field over one or several targets.
+fn document(
+    rt: &HostRuntime,
+    file: &NcFile,
+    name: &[u8],
+    n_a: u32,
+    n_b: u32,
+    whole: &[i32],
+    rest: &[i64],
+) -> Result<NcDoc, Fail>
+    requires file { IsFileHeader file.now }
+    requires sound { IsSound file.now }
+    ensures { IfOk result IsWellFormed }
+{
+    let field = fitted(file, name, n_a)?;
+    let count = u64::from(field.slices) * u64::from(n_b);
+    if n_b == 0 || n_b > 1_048_576 || whole.len() as u64 != count || rest.len() as u64 != count {
+        return Err("other counts were expected".into());
+    }
+    match field_doc(
+        rt.alloc(),
+        file,
+        field,
+        n_b,
+        ints(rt, whole)?,
+        longs(rt, rest)?,
+    ) {
+        Ok(doc) => Ok(doc),
+        Err(_) => Err("out of memory".into()),
+    }
+}
+
+#[test]
+fn three_records(rt: HostRuntime) -> Result<(), Fail> {
+    let bytes = bytes_of(&rt, THREE_RECORDS)?;
+    let file = header_of(&rt, &bytes)?;
+    let Ok(found) = read_field(rt.alloc(), &file, b"x", 2, &bytes) else {
+        return Err("a field was expected".into());
+    };
+    assert_eq!(rt; found.field.leading, 1);
+    assert_eq!(rt; found.field.slices, 3);
+    assert!(rt; found.values.items.as_slice() == [-1, 1, -5, 1, -5, 0].as_slice());
+    assert!(rt; found.fill.is_none());
+    let doc = document(&rt, &file, b"x", 2, 1, &[0, -1, -2], &[1, 0, 1])?;
+    assert_eq!(rt; doc.records, 3);
+    assert_eq!(rt; length_of(&doc), 264);
+    Ok(())
+}
+
+#[test]
+fn no_record(rt: HostRuntime) -> Result<(), Fail> {
+    let bytes = bytes_of(&rt, NO_RECORD)?;
+    let file = header_of(&rt, &bytes)?;
+    let field = fitted(&file, b"x", 2)?;
+    assert_eq!(rt; field.slices, 0);
+    let doc = document(&rt, &file, b"x", 2, 1, &[], &[])?;
+    assert_eq!(rt; length_of(&doc), 228);
+    Ok(())
+}
+
+#[test]
+fn octants(rt: HostRuntime) -> Result<(), Fail> {
+    let bytes = bytes_of(&rt, OCTANTS)?;
+    let file = header_of(&rt, &bytes)?;
+    let whole = [1, 2, 3, 4, 5, 6, 7, 8];
+    let doc = document(&rt, &file, b"x", 8, 8, &whole, &[0; 8])?;
+    assert_eq!(rt; length_of(&doc), 288);
+    Ok(())
+}
