@@ -14,3 +14,4 @@ pub mod Unrepeated
 pub mod VarValues
 mod Widths
 pub mod MeshLength
+pub mod Lists

@@ -23,6 +23,14 @@ numbers_of_var bytes (Some v) = numbers_in v.kind (gathered v bytes)
 abbrev pub values_in : NcFile → List ℕ → ℕ → List ℤ
 values_in file bytes place = numbers_of_var bytes (slice_get file.vars place)
 
+-- the places of the variables of the coordinates, and of those of the blocks
+abbrev pub coord_places : CoordVars → List ℕ
+coord_places (Whole coord) = coord ∷ []
+coord_places (Split x y z) = x ∷ y ∷ z ∷ []
+
+abbrev pub block_places : List BlockVar → List ℕ
+block_places blocks = map (λ (b : BlockVar). b.var) blocks
+
 abbrev pub coords_in : NcFile → List ℕ → CoordVars → List (List ℤ)
 coords_in file bytes (Whole coord) = values_in file bytes coord ∷ []
 coords_in file bytes (Split x y z) = values_in file bytes x ∷ values_in file bytes y ∷ values_in file bytes z ∷ []

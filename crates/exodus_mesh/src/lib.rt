@@ -25,6 +25,6 @@ pub use kinds::NumberKind;
 pub use laws::law_mesh_read_again;
 pub use lens::{find_named, var_len, var_lens};
 pub use names::{make_dimension, make_name};
-pub use reading::{read_ints, read_longs, read_mesh};
+pub use reading::{block_places, coord_places, read_ints, read_lists, read_longs, read_mesh};
 pub use values::mesh_from;
 pub use vars::{BlockVar, BlockVars, CoordVars, MeshVars};

@@ -1,10 +1,10 @@
 // The mesh of a whole file.
-ghost use Rattle.std.specs.Prelude.{◌≡◌, ℕ, length, All, IfOk, OnOk, Ok, ◌++◌, ◌∷◌, []};
+ghost use Rattle.std.specs.Prelude.{◌≡◌, ℕ, length, map, All, IfOk, OnOk, Ok, ◌++◌, ◌∷◌, []};
 ghost use Rattle.vec_exact.specs.Counts.{AreAllowedCounts};
 ghost use Rattle.nc_format.specs.Header.{IsHeader};
 ghost use Rattle.exodus_mesh.specs.MeshNames.{mesh_vars_in};
 ghost use Rattle.exodus_mesh.specs.Found.{IsSomeIntVar, IsSomeLongVar, AreCoordVars, IsBlockVar};
-ghost use Rattle.exodus_mesh.specs.MeshIn.{values_in, coords_in, rows_in, mesh_at, mesh_in};
+ghost use Rattle.exodus_mesh.specs.MeshIn.{values_in, coord_places, block_places, coords_in, rows_in, mesh_at, mesh_in};
 
 use crate::variables::var_at;
 use crate::{BlockVar, CoordVars, MeshVars, mesh_from};
@@ -45,6 +45,50 @@ pub fn read_longs(alloc: Global, file: &NcFile, bytes: &[u8], place: u32) -> Res
     Ok(Longs { items })
 }
 
+fn push(lists: &mut Vec<Ints>, list: Ints) -> Result<(), NoMemory>
+    ensures { OnOk result (lists.new.items ≡ lists.old.items ++ list ∷ []) }
+{
+    lists.push(list).map_err(AllocError::from)?;
+    Ok(())
+}
+
+/// The numbers of the variables at some places, one list for each, in their order. Its only error is
+/// want of memory.
+pub fn read_lists(
+    alloc: Global,
+    file: &NcFile,
+    bytes: &[u8],
+    places: &[u32],
+) -> Result<Vec<Ints>, NoMemory>
+    requires header { IsHeader bytes.now (length bytes.now) file.now }
+    requires vars { All (IsSomeIntVar file.now) places.now }
+    ensures { IfOk result (λ lists. lists.items ≡ map (values_in file.now bytes.now) places.now) }
+{
+    let mut lists = Vec::new(alloc);
+    for place in places {
+        push(&mut lists, read_ints(alloc, file, bytes, *place)?)?;
+    }
+    Ok(lists)
+}
+
+/// The places of the variables of the coordinates in the list of variables, from 0: of `coord`, or of
+/// `coordx`, `coordy` and `coordz`.
+pub fn coord_places(alloc: Global, coord: CoordVars) -> Result<Vec<u32>, AllocError>
+    ensures { IfOk result (λ places. places.items ≡ coord_places coord) }
+{
+    match coord {
+        CoordVars::Whole(coord) => [coord].to_vec(alloc),
+        CoordVars::Split(x, y, z) => [x, y, z].to_vec(alloc),
+    }
+}
+
+/// The places of the variables of the blocks, in order.
+pub fn block_places(alloc: Global, blocks: &[BlockVar]) -> Result<Vec<u32>, AllocError>
+    ensures { IfOk result (λ places. places.items ≡ block_places blocks.now) }
+{
+    blocks.iter().map(|block| block.var).collect(alloc)
+}
+
 fn coords(
     alloc: Global,
     file: &NcFile,
@@ -55,18 +99,8 @@ fn coords(
     requires vars { (nodes : ℕ) × AreCoordVars file.now nodes coord }
     ensures { IfOk result (λ lists. lists.items ≡ coords_in file.now bytes.now coord) }
 {
-    let mut lists = Vec::new(alloc);
-    match coord {
-        CoordVars::Whole(coord) => {
-            push(&mut lists, read_ints(alloc, file, bytes, coord)?)?;
-        }
-        CoordVars::Split(x, y, z) => {
-            push(&mut lists, read_ints(alloc, file, bytes, x)?)?;
-            push(&mut lists, read_ints(alloc, file, bytes, y)?)?;
-            push(&mut lists, read_ints(alloc, file, bytes, z)?)?;
-        }
-    }
-    Ok(lists)
+    let places = coord_places(alloc, coord)?;
+    read_lists(alloc, file, bytes, &places)
 }
 
 fn rows(
@@ -79,18 +113,8 @@ fn rows(
     requires vars { All (IsBlockVar file.now) blocks.now }
     ensures { IfOk result (λ lists. lists.items ≡ rows_in file.now bytes.now blocks.now) }
 {
-    let mut lists = Vec::new(alloc);
-    for block in blocks {
-        push(&mut lists, read_ints(alloc, file, bytes, block.var)?)?;
-    }
-    Ok(lists)
-}
-
-fn push(lists: &mut Vec<Ints>, list: Ints) -> Result<(), NoMemory>
-    ensures { OnOk result (lists.new.items ≡ lists.old.items ++ list ∷ []) }
-{
-    lists.push(list).map_err(AllocError::from)?;
-    Ok(())
+    let places = block_places(alloc, blocks)?;
+    read_lists(alloc, file, bytes, &places)
 }
 
 /// The mesh of the variables `vars` in the file with the bytes `bytes` and the header `file`, for

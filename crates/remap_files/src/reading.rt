@@ -1,28 +1,14 @@
 // The overlap of a whole file.
-ghost use Rattle.std.specs.Prelude.{◌≡◌, length, All, IfOk, IfErr, Ok};
+ghost use Rattle.std.specs.Prelude.{◌≡◌, length, IfOk, IfErr, Ok};
 ghost use Rattle.nc_format.specs.Header.{IsHeader};
-ghost use Rattle.exodus_mesh.specs.Found.{IsSomeIntVar};
 ghost use Rattle.remap_files.specs.Answers.{file_fault_of, Refuses, IsOfNamesOrRows};
-ghost use Rattle.remap_files.specs.OverlapIn.{lists_in, overlap_in};
+ghost use Rattle.remap_files.specs.OverlapIn.{overlap_in};
 
 use crate::{FileFault, find_overlap, overlap_from};
 use clip::Overlap;
-use exodus_mesh::{NameFault, read_ints};
+use exodus_mesh::{NameFault, read_lists};
 use nc_format::{NcFile, law_first_fault};
 use std::alloc::Global;
-use vec_exact::{Ints, NoMemory};
-
-fn lists(alloc: Global, file: &NcFile, bytes: &[u8], places: &[u32]) -> Result<Vec<Ints>, NoMemory>
-    requires header { IsHeader bytes.now (length bytes.now) file.now }
-    requires vars { All (IsSomeIntVar file.now) places.now }
-    ensures { IfOk result (λ lists. lists.items ≡ lists_in file.now bytes.now places.now) }
-{
-    let mut lists = Vec::with_capacity(alloc, places.len())?;
-    for place in places {
-        lists.push(read_ints(alloc, file, bytes, *place)?)?;
-    }
-    Ok(lists)
-}
 
 // A fault of names is a fault of the file; want of memory stays want of memory.
 pub fn file_fault(fault: NameFault) -> FileFault
@@ -51,6 +37,6 @@ pub fn read_overlap(alloc: Global, file: &NcFile, bytes: &[u8]) -> Result<Overla
         Ok(vars) => vars,
         Err(fault) => return Err(file_fault(fault)),
     };
-    let lists = lists(alloc, file, bytes, &vars.vars.items)?;
+    let lists = read_lists(alloc, file, bytes, &vars.vars.items)?;
     overlap_from(alloc, &vars, &lists)
 }

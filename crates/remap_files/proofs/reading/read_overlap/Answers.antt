@@ -18,8 +18,8 @@ pub returns-in-Err-clause-fault : goal.returns-in-Err-clause-fault
 returns-in-Err-clause-fault c =
     subst (λ (f : FileFault). Refuses f (overlap_in c.args.file.now c.args.bytes.now)) (sym c.file_fault.ensures) (names_refused c.args.file.now c.args.bytes.now c.in-Err.fault c.in-Err.ensures.fault)
 
-pub lists-requires-clause-vars : goal.lists-requires-clause-vars
-lists-requires-clause-vars c =
+pub read_lists-requires-clause-vars : goal.read_lists-requires-clause-vars
+read_lists-requires-clause-vars c =
     let are : AreOverlapVars c.args.file.now c.in-Ok.vars = overlap_vars_ok c.args.file.now c.in-Ok.vars c.in-Ok.ensures.vars in
     let same : c.deref.result.now ≡ c.in-Ok.vars.vars = c.deref.ensures.value ∙ ap (λ (v : OverlapVars). v.vars) c.vars.view_is in
     subst (λ (l : List ℕ). All (IsSomeIntVar c.args.file.now) l) (sym same) are.vars
