@@ -4,8 +4,6 @@
 mod laws;
 mod loading;
 mod refusal;
-#[cfg(test)]
-mod tests;
 mod values;
 
 use exodus_mesh::NameFault;

@@ -104,8 +104,8 @@ fn load<F: Files>(alloc: Global, files: &mut F, name: &str) -> Result<Mesh, Mesh
 ///
 /// A refusal is the first of these: there is no such file; it has more than 2,147,483,647 bytes; the
 /// first fault of its header; the first fault of the names there; a count past its limit, where a sum
-/// of faces past 4,294,967,295 counts as that number; the first fault of the mesh. `ReadFault` and
-/// `NoMemory` may come in place of any answer. The counts are tested before a value is read.
+/// of faces past 4,294,967,295 counts as that number; the first fault of the mesh. A failed read and
+/// want of memory may come in place of any answer. The counts are tested before a value is read.
 pub fn load_mesh<F: Files>(alloc: Global, files: &mut F, name: &str) -> Result<Mesh, MeshRefusal>
     // What is answered stands in the file, where the folder is told. A miss and a failed read are
     // counted.

@@ -6,8 +6,6 @@ mod header;
 mod numbers;
 mod reads;
 mod refusal;
-#[cfg(test)]
-mod tests;
 mod variables;
 
 pub use fault::LoadFault;

@@ -8,6 +8,8 @@ mod failing;
 #[cfg(test)]
 mod generators;
 #[cfg(test)]
+mod loading;
+#[cfg(test)]
 mod machine;
 #[cfg(test)]
 mod meshes;

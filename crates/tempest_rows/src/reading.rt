@@ -18,24 +18,29 @@ fn a_missing_file_is_told(rt: HostRuntime) -> Result<(), Fail> {
     Ok(())
 }
 
+// Calls 1 and 2 are of the source mesh, 3 and 4 of the target mesh: the line names its file.
 #[test]
 fn a_failing_read_is_told_and_the_same_words_can_run_again(rt: HostRuntime) -> Result<(), Fail> {
-    for call in [1, 2, 3, 4u32] {
+    let words = "GenerateOverlapMesh --a cs1.g --b other.g --out o.g";
+    for (call, line) in [
+        (1u32, b"tempest: read fault on cs1.g\n".as_slice()),
+        (2, b"tempest: read fault on cs1.g\n".as_slice()),
+        (3, b"tempest: read fault on other.g\n".as_slice()),
+        (4, b"tempest: read fault on other.g\n".as_slice()),
+    ] {
         let mut row = Run::new(rt.alloc());
         row.files = MemFiles::new(rt.alloc(), [call].to_vec(rt.alloc())?);
         row.place("cs1.g", &CS1)?;
+        row.place("other.g", &CS1)?;
         assert_eq!(rt;
-            row.go(&rt, rt.alloc(), WORDS)?,
+            row.go(&rt, rt.alloc(), words)?,
             Status::ReadFault,
             "at {call}"
         );
-        assert_eq!(rt;
-            row.err.bytes(),
-            b"tempest: read fault on cs1.g\n".as_slice()
-        );
+        assert_eq!(rt; row.err.bytes(), line, "at {call}");
         assert_eq!(rt; row.files.get("o.g"), None);
         row.renew_sinks(rt.alloc());
-        assert_eq!(rt; row.go(&rt, rt.alloc(), WORDS)?, Status::Done, "at {call}");
+        assert_eq!(rt; row.go(&rt, rt.alloc(), words)?, Status::Done, "at {call}");
         assert_eq!(rt; row.out.bytes(), b"pieces 6\n".as_slice());
     }
     Ok(())
@@ -125,15 +130,13 @@ struct LongFiles;
 impl Files for LongFiles {
     ghost use Rattle.std.specs.Prelude.{None};
 
-    ghost folder = { λ _. None };
-
-    ghost faults = { λ _. 18446744073709551615 };
-
-    ghost write_faults = { λ _. 18446744073709551615 };
-
-    ghost misses = { λ _. 18446744073709551615 };
-
-    ghost taken = { λ _. 18446744073709551615 };
+    ghost seen = { λ _. record {
+      folder = None;
+      faults = 18446744073709551615;
+      write_faults = 18446744073709551615;
+      misses = 18446744073709551615;
+      taken = 18446744073709551615;
+    } };
 
     fn size(&mut self, _name: &str) -> Result<u64, FileErr> {
         Ok(2_147_483_648)

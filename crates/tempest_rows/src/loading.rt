@@ -1,0 +1,152 @@
+// Files that are loaded: values in both widths, a mesh by its name, and mesh files of other forms
+// than the generators write.
+use crate::generators::CS1;
+use crate::runs::Run;
+use mesh_check::{face_count, node_count};
+use mesh_load::load_mesh;
+use nc_format::{NcFault, is_int};
+use remap_io::{Files, MemFiles, SteadyFiles};
+use remap_load::{FileRefusal, LoadFault, load_header, load_ints, load_longs};
+use std::alloc::{AllocError, Global};
+use std::test::Fail;
+use tempest_top::Status;
+use vec_exact::{Ints, Longs};
+
+const WORDS: &str = "GenerateOverlapMesh --a a.g --b a.g --out o.g";
+
+// The values of the variable at a place, read in both widths.
+fn values_at<F: Files>(
+    alloc: Global,
+    files: &mut F,
+    name: &str,
+    var: u32,
+) -> Result<(Ints, Longs), LoadFault> {
+    let head = load_header(alloc, files, name)?;
+    match head.file.vars.items.get(var as usize) {
+        Some(variable) if is_int(variable.kind) => {
+            let ints = load_ints(alloc, files, name, &head, var)?;
+            let longs = load_longs(alloc, files, name, &head, var)?;
+            Ok((ints, longs))
+        }
+        _ => Err(LoadFault::Absent),
+    }
+}
+
+#[test]
+fn values_of_a_file(rt: HostRuntime) -> Result<(), Fail> {
+    let mut files = SteadyFiles::new(rt.alloc());
+    if files.replace("cs1.g", &CS1).is_err() {
+        return Err("the file was expected to be put".into());
+    }
+    let Ok((ints, longs)) = values_at(rt.alloc(), &mut files, "cs1.g", 1) else {
+        return Err("values were expected".into());
+    };
+    assert_eq!(rt;
+        ints.items.as_slice(),
+        [
+            5, 7, 8, 6, 7, 3, 4, 8, 3, 1, 2, 4, 1, 5, 6, 2, 6, 8, 4, 2, 1, 3, 7, 5
+        ]
+        .as_slice()
+    );
+    assert_eq!(rt;
+        longs.items.as_slice(),
+        [
+            5, 7, 8, 6, 7, 3, 4, 8, 3, 1, 2, 4, 1, 5, 6, 2, 6, 8, 4, 2, 1, 3, 7, 5
+        ]
+        .as_slice()
+    );
+    assert_eq!(rt; files.taken(), 440);
+    Ok(())
+}
+
+#[test]
+fn a_mesh_and_its_refusals(rt: HostRuntime) -> Result<(), Fail> {
+    let mut files = SteadyFiles::new(rt.alloc());
+    if files.replace("cs1.g", &CS1).is_err() || files.replace("cut.g", &CS1[..400]).is_err() {
+        return Err("the files were expected to be put".into());
+    }
+    let Ok(mesh) = load_mesh(rt.alloc(), &mut files, "cs1.g") else {
+        return Err("a mesh was expected".into());
+    };
+    assert_eq!(rt; face_count(&mesh), 6);
+    assert_eq!(rt; node_count(&mesh), 8);
+    assert_eq!(rt; files.taken(), 440);
+    assert_eq!(rt;
+        load_mesh(rt.alloc(), &mut files, "no_such.g").err(),
+        Some(FileRefusal::Load(LoadFault::Absent))
+    );
+    assert_eq!(rt;
+        load_mesh(rt.alloc(), &mut files, "cut.g").err(),
+        Some(FileRefusal::Load(LoadFault::Format(NcFault::DataOutside(2))))
+    );
+    Ok(())
+}
+
+// The same mesh with an attribute of 70,000 characters: a header that the first 65,536 bytes cut.
+fn with_a_long_header(alloc: Global) -> Result<Vec<u8>, AllocError> {
+    let mut file = CS1[..136].to_vec(alloc)?;
+    file.extend_from_slice(b"\0\0\0\x0c\0\0\0\x01\0\0\0\x01x\0\0\0\0\0\0\x02")?;
+    file.extend_from_slice(&70_000u32.to_be_bytes())?;
+    file.resize(70_160, b'x')?;
+    file.extend_from_slice(&CS1[144..192])?;
+    file.extend_from_slice(&(248u64 + 70_016).to_be_bytes())?;
+    file.extend_from_slice(&CS1[200..240])?;
+    file.extend_from_slice(&(344u64 + 70_016).to_be_bytes())?;
+    file.extend_from_slice(&CS1[248..])?;
+    Ok(file)
+}
+
+// The same mesh in version 1, where a begin has four bytes.
+fn in_version_1(alloc: Global) -> Result<Vec<u8>, AllocError> {
+    let mut file = b"CDF\x01".to_vec(alloc)?;
+    file.extend_from_slice(&CS1[4..192])?;
+    file.extend_from_slice(&240u32.to_be_bytes())?;
+    file.extend_from_slice(&CS1[200..240])?;
+    file.extend_from_slice(&336u32.to_be_bytes())?;
+    file.extend_from_slice(&CS1[248..])?;
+    Ok(file)
+}
+
+// The same mesh with node numbers of type SHORT.
+fn with_short_numbers(alloc: Global) -> Result<Vec<u8>, AllocError> {
+    let mut file = CS1[..232].to_vec(alloc)?;
+    file.extend_from_slice(b"\0\0\0\x03\0\0\0\x30")?;
+    file.extend_from_slice(&CS1[240..344])?;
+    for number in CS1[344..].chunks_exact(4) {
+        file.extend_from_slice(&number[2..])?;
+    }
+    Ok(file)
+}
+
+#[test]
+fn mesh_files_of_other_forms_are_read(rt: HostRuntime) -> Result<(), Fail> {
+    let alloc = rt.alloc();
+    for (file, taken) in [
+        (with_a_long_header(alloc)?, 140_912),
+        (in_version_1(alloc)?, 864),
+        (with_short_numbers(alloc)?, 784),
+    ] {
+        let mut row = Run::new(alloc);
+        row.place("a.g", &file)?;
+        assert_eq!(rt; row.go(&rt, alloc, WORDS)?, Status::Done);
+        assert_eq!(rt; row.out.bytes(), b"pieces 6\n".as_slice());
+        assert_eq!(rt; row.files.taken(), taken);
+    }
+    Ok(())
+}
+
+// An empty file is read by one call, which may fail.
+#[test]
+fn an_empty_file_is_read(rt: HostRuntime) -> Result<(), Fail> {
+    let mut row = Run::new(rt.alloc());
+    row.files = MemFiles::new(rt.alloc(), [2].to_vec(rt.alloc())?);
+    row.place("a.g", b"")?;
+    assert_eq!(rt; row.go(&rt, rt.alloc(), WORDS)?, Status::ReadFault);
+    row.renew_sinks(rt.alloc());
+    assert_eq!(rt; row.go(&rt, rt.alloc(), WORDS)?, Status::Format);
+    assert_eq!(rt;
+        row.err.bytes(),
+        b"tempest: a.g: truncated at 0\n".as_slice()
+    );
+    Ok(())
+}
