@@ -137,7 +137,7 @@ own_usage (Some (Overlap a b out workers)) text (inr h) = absurd (let e = h.0 in
 own_usage (Some (OfflineMap in_mesh out_mesh ov_mesh out_map)) text h = refl
 own_usage (Some (Apply map var in_data out_data masked)) text h = refl
 own_usage (Some (SelfRun n workers)) text h = refl
-own_usage (Some (Coverage a b)) text h = refl
+own_usage (Some (Coverage a b)) text h = absurd h
 own_usage (Some (Check file workers)) text h = refl
 
 text_usage : (chosen : Option Chosen) (m : Option Folder) (text : List ℕ) → IsText chosen m text Usage → is_usage chosen ≡ true
@@ -154,7 +154,7 @@ own_no_file (Some (Overlap a b out workers)) text (inr h) = let e = h.0 in absur
 own_no_file (Some (OfflineMap in_mesh out_mesh ov_mesh out_map)) text h = let e = h.0 in absurd cc
 own_no_file (Some (Apply map var in_data out_data masked)) text h = let e = h.0 in absurd cc
 own_no_file (Some (SelfRun n workers)) text h = let e = h.0 in absurd cc
-own_no_file (Some (Coverage a b)) text h = let e = h.0 in absurd cc
+own_no_file (Some (Coverage a b)) text h = h
 own_no_file (Some (Check file workers)) text h = let e = h.0 in absurd cc
 
 none_reached : (inputs : List Input) (m : Option Folder) (input : Input) → inputs ≡ [] → IsReached inputs m input → ⊥
@@ -265,7 +265,7 @@ usage_text (Some (Overlap a b out workers)) h = absurd cc
 usage_text (Some (OfflineMap in_mesh out_mesh ov_mesh out_map)) h = (refl, refl)
 usage_text (Some (Apply map var in_data out_data masked)) h = (refl, refl)
 usage_text (Some (SelfRun n workers)) h = (refl, refl)
-usage_text (Some (Coverage a b)) h = (refl, refl)
+usage_text (Some (Coverage a b)) h = absurd cc
 usage_text (Some (Check file workers)) h = (refl, refl)
 
 pub keeps_usage : (chosen : Option Chosen) (before after : Scene) (status : Status) → is_usage chosen ≡ true → after.files ≡ before.files → after.out ≡ before.out → status ≡ Usage → PutsText before.err after.err (codes "usage") → Keeps chosen before after status

@@ -12,12 +12,14 @@ use Rattle.mesh_load.proofs.OneMesh.{mesh_law}
 use Rattle.clip.specs.Overlaps.{OverlapParts}
 use Rattle.remap_files.specs.OverlapDocument.{overlap_document}
 use Rattle.gen_ico.proofs.One.{one_made as one_icosahedral}
+use Rattle.cover_check.specs.declared.counting.CoverCount.{CoverCount}
+use Rattle.cover_check.proofs.OneCount.{one_cover_count}
 use Rattle.command_line.specs.declared.choices.Chosen.{Chosen}
 use Rattle.command_line.specs.declared.choices.Chosen.TheVariants.{Cs, Rll, Ico, Overlap, OfflineMap, Apply, SelfRun, Coverage, Check}
 use Rattle.tempest_top.specs.declared.status.Status.TheVariants.{Limit}
-use Rattle.tempest_top.specs.Lines.{pieces_text}
+use Rattle.tempest_top.specs.Lines.{pieces_text, coverage_text}
 use Rattle.tempest_top.specs.Faults.{FileWords, status_of, text_of, mesh_words, too_many_pieces_text}
-use Rattle.tempest_top.specs.Outcome.{Outcome, IsOutcome, IsOutcomeOfMade, IsOutcomeOfDocument, IsOutcomeOfPair, AfterFile, refusal, fault_of_made, mesh_written, is_usage, usage}
+use Rattle.tempest_top.specs.Outcome.{Outcome, IsOutcome, IsOutcomeOfMade, IsOutcomeOfDocument, IsOutcomeOfPair, IsOutcomeOfCoverage, AfterFile, text_alone, refusal, fault_of_made, mesh_written, is_usage, usage}
 use Rattle.tempest_top.proofs.OnePair.{one_count, one_overlap, count_of_overlap}
 
 -- what two outcomes are equal to
@@ -49,6 +51,11 @@ one_pair source target file m o p (inl a) (inr b) = absurd (omega (arith, a.2, b
 one_pair source target file m o p (inr a) (inl b) = absurd (omega (arith, a.2, b.2, count_of_overlap source target a.0 b.0 a.1 b.1))
 one_pair source target file m o p (inr a) (inr b) = one_document _ _ file m o p a.3 (subst (of_overlap file m p) (one_overlap source target b.0 a.0 b.1 a.1) b.3)
 
+-- what a mesh covers of another is told in one way
+one_coverage : (source target : RawMesh) (m : Option Folder) (o p : Outcome) → IsOutcomeOfCoverage source target m o → IsOutcomeOfCoverage source target m p → o ≡ p
+one_coverage source target m o p a b =
+    a.2 ∙ ap (λ (count : CoverCount). text_alone (coverage_text (length target.faces) count) m) (one_cover_count source target a.0 b.0 a.1 b.1) ∙ sym b.2
+
 -- and so has what follows a file, where what follows its content has
 pub one_after : {A C : Type 0} (words : FileWords A C) → IsLawful words.kind → (m : Option Folder) (file : List ℕ) (next : A → Outcome → Type 0) → ((content : A) (o p : Outcome) → next content o → next content p → o ≡ p)
     → (o p : Outcome) → AfterFile words m file next o → AfterFile words m file next p → o ≡ p
@@ -70,7 +77,9 @@ one_outcome (Some (Overlap a b out workers)) m o p e f =
 one_outcome (Some (OfflineMap in_mesh out_mesh ov_mesh out_map)) m o p e f = same o p _ e f
 one_outcome (Some (Apply map var in_data out_data masked)) m o p e f = same o p _ e f
 one_outcome (Some (SelfRun n workers)) m o p e f = same o p _ e f
-one_outcome (Some (Coverage a b)) m o p e f = same o p _ e f
+one_outcome (Some (Coverage a b)) m o p e f =
+    one_after mesh_words mesh_law m a (λ source. AfterFile mesh_words m b (λ target. IsOutcomeOfCoverage source target m))
+    (λ source. one_after mesh_words mesh_law m b (λ target. IsOutcomeOfCoverage source target m) (λ target. one_coverage source target m)) o p e f
 one_outcome (Some (Check file workers)) m o p e f = same o p _ e f
 
 -- a mesh that is accepted is written
@@ -87,5 +96,5 @@ usage_outcome (Some (Overlap a b out workers)) m h = absurd cc
 usage_outcome (Some (OfflineMap in_mesh out_mesh ov_mesh out_map)) m h = refl
 usage_outcome (Some (Apply map var in_data out_data masked)) m h = refl
 usage_outcome (Some (SelfRun n workers)) m h = refl
-usage_outcome (Some (Coverage a b)) m h = refl
+usage_outcome (Some (Coverage a b)) m h = absurd cc
 usage_outcome (Some (Check file workers)) m h = refl

@@ -45,7 +45,7 @@ inputs_of (Some (Overlap a b out workers)) = MeshFile a ∷ MeshFile b ∷ []
 inputs_of (Some (OfflineMap in_mesh out_mesh ov_mesh out_map)) = []
 inputs_of (Some (Apply map var in_data out_data masked)) = []
 inputs_of (Some (SelfRun n workers)) = []
-inputs_of (Some (Coverage a b)) = []
+inputs_of (Some (Coverage a b)) = MeshFile a ∷ MeshFile b ∷ []
 inputs_of (Some (Check file workers)) = []
 
 -- the name of the output file of a command that has one

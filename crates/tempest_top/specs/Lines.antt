@@ -2,6 +2,7 @@
 use Rattle.std.specs.Prelude.{◌≡◌, ◌⊎◌, ℕ, List, ◌++◌, length, take, codes, decimal, Option, Some, None}
 use Rattle.vec_exact.specs.declared.RawMesh.{RawMesh}
 use Rattle.remap_io.specs.Causes.{Rose}
+use Rattle.cover_check.specs.declared.counting.CoverCount.{CoverCount}
 use Rattle.remap_io.specs.Outside.{SinkSeen}
 
 -- what is put to the output for a mesh that was made
@@ -11,6 +12,10 @@ mesh_text raw = codes "faces " ++ decimal (length raw.faces) ++ codes " nodes " 
 -- what is put to the output for the pieces of two meshes
 abbrev pub pieces_text : ℕ → List ℕ
 pieces_text n = codes "pieces " ++ decimal n ++ codes "\n"
+
+-- what is put to the output for the targets of a mesh, and how many of them are covered
+abbrev pub coverage_text : ℕ → CoverCount → List ℕ
+coverage_text targets count = codes "targets " ++ decimal targets ++ codes " covered " ++ decimal count.covered ++ codes " first " ++ decimal count.first ++ codes "\n"
 
 -- the line of a refusal
 abbrev pub line_of : List ℕ → List ℕ

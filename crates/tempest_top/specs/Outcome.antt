@@ -16,11 +16,13 @@ use Rattle.clip.specs.Overlaps.{OverlapParts}
 use Rattle.overlap_run.specs.Pairs.{IsPairCount}
 use Rattle.overlap_run.specs.Whole.{IsOverlapOf}
 use Rattle.remap_files.specs.OverlapDocument.{overlap_document}
+use Rattle.cover_check.specs.declared.counting.CoverCount.{CoverCount}
+use Rattle.cover_check.specs.CoveredTargets.{IsCoverCount}
 use Rattle.command_line.specs.declared.choices.Chosen.{Chosen}
 use Rattle.command_line.specs.declared.choices.Chosen.TheVariants.{Cs, Rll, Ico, Overlap, OfflineMap, Apply, SelfRun, Coverage, Check}
 use Rattle.tempest_top.specs.declared.status.Status.{Status}
 use Rattle.tempest_top.specs.declared.status.Status.TheVariants.{Done, Usage, Mesh, Limit}
-use Rattle.tempest_top.specs.Lines.{mesh_text, pieces_text, line_of}
+use Rattle.tempest_top.specs.Lines.{mesh_text, pieces_text, coverage_text, line_of}
 use Rattle.tempest_top.specs.Faults.{FileWords, status_of, text_of, mesh_words, mesh_fault_text, length_text, too_many_pieces_text}
 use Rattle.tempest_top.specs.Inputs.{inputs_of, AreTold}
 
@@ -87,6 +89,10 @@ IsOutcomeOfPair source target file m o =
     ((n : ℕ) × IsPairCount source target n × (8388608 < n) × (o ≡ refusal Limit (too_many_pieces_text n) m))
     ⊎ ((overlap : OverlapParts) × IsOverlapOf source target overlap × (length overlap.pieces ≤ 8388608) × IsOutcomeOfDocument (overlap_document overlap) (pieces_text (length overlap.pieces)) file m o)
 
+-- What the source mesh covers of the target mesh is told.
+abbrev pub IsOutcomeOfCoverage : RawMesh → RawMesh → Option Folder → Outcome → Type 0
+IsOutcomeOfCoverage source target m o = (count : CoverCount) × IsCoverCount source target count × (o ≡ text_alone (coverage_text (length target.faces) count) m)
+
 -- the words are out of the grammar, or name a command that the program doesn't have yet
 abbrev pub is_usage : Option Chosen → Bool
 is_usage None = true
@@ -97,7 +103,7 @@ is_usage (Some (Overlap a b out workers)) = false
 is_usage (Some (OfflineMap in_mesh out_mesh ov_mesh out_map)) = true
 is_usage (Some (Apply map var in_data out_data masked)) = true
 is_usage (Some (SelfRun n workers)) = true
-is_usage (Some (Coverage a b)) = true
+is_usage (Some (Coverage a b)) = false
 is_usage (Some (Check file workers)) = true
 
 -- they are refused
@@ -115,7 +121,7 @@ IsOutcome (Some (Overlap a b out workers)) m o = AfterFile mesh_words m a (λ so
 IsOutcome (Some (OfflineMap in_mesh out_mesh ov_mesh out_map)) m o = o ≡ usage m
 IsOutcome (Some (Apply map var in_data out_data masked)) m o = o ≡ usage m
 IsOutcome (Some (SelfRun n workers)) m o = o ≡ usage m
-IsOutcome (Some (Coverage a b)) m o = o ≡ usage m
+IsOutcome (Some (Coverage a b)) m o = AfterFile mesh_words m a (λ source. AfterFile mesh_words m b (λ target. IsOutcomeOfCoverage source target m)) o
 IsOutcome (Some (Check file workers)) m o = o ≡ usage m
 
 -- There is an outcome with this, and no other outcome. Of a command with input files it is said only where the folder is told.

@@ -74,6 +74,10 @@ IsPiecesText text status = (status ≡ Limit) × ((n : ℕ) × (8388608 < n) × 
 abbrev pub IsOverlapText : List ℕ → List ℕ → Status → Type 0
 IsOverlapText file text status = IsPiecesText text status ⊎ IsLengthText file text status
 
+-- nothing
+abbrev pub NoText : List ℕ → Status → Type 0
+NoText text status = ⊥
+
 -- what a command says besides the refusals of its input files
 abbrev pub IsOwnText : Option Chosen → List ℕ → Status → Type 0
 IsOwnText None text status = IsUsageText text status
@@ -84,7 +88,7 @@ IsOwnText (Some (Overlap a b out workers)) text status = IsOverlapText out text 
 IsOwnText (Some (OfflineMap in_mesh out_mesh ov_mesh out_map)) text status = IsUsageText text status
 IsOwnText (Some (Apply map var in_data out_data masked)) text status = IsUsageText text status
 IsOwnText (Some (SelfRun n workers)) text status = IsUsageText text status
-IsOwnText (Some (Coverage a b)) text status = IsUsageText text status
+IsOwnText (Some (Coverage a b)) text status = ⊥
 IsOwnText (Some (Check file workers)) text status = IsUsageText text status
 
 -- a text of this status: the refusal of an input file that is dealt with, or one of these texts

@@ -1,9 +1,11 @@
 //! Everything that the program does: from its words to its files, its text and its status.
 #![tactic(auto)]
 
+mod cover;
 mod faults;
 mod finish;
 mod generate;
+mod inputs;
 mod laws;
 mod lines;
 mod pairs;

@@ -18,12 +18,12 @@ ghost use Rattle.tempest_top.specs.Ends.{Comes};
 ghost use Rattle.tempest_top.specs.Promises.{IsOverlapText, Keeps};
 
 use crate::Status;
-use crate::faults::{refuse_length, refuse_mesh_file, refuse_run};
+use crate::faults::{refuse_length, refuse_run};
 use crate::finish::{refuse_memory, write_then_text};
+use crate::inputs::{mesh_of, refuse_mesh};
 use clip::Columns;
 use command_line::Text;
 use mesh_check::{Mesh, face_count};
-use mesh_load::{MeshRefusal, load_mesh};
 use nc_write::{EncFault, encode};
 use overlap_run::{OpenGate, RunFault, overlap_list};
 use remap_files::{columns_doc, columns_length};
@@ -150,27 +150,6 @@ fn write_pair<R: Threads, F: Files, O: Sink, E: Sink>(
     drop(a);
     drop(b);
     write_overlap(alloc, faces_a, faces_b, columns, file, files, out, err)
-}
-
-// The mesh of an input file.
-fn mesh_of<F: Files>(alloc: Global, files: &mut F, file: &Text) -> Result<Mesh, MeshRefusal>
-    ensures mesh { IfOk result (λ mesh. OnFile (F.seen files.old).folder file.now
-        (λ bytes. HasContent mesh_words.kind bytes mesh)) }
-    ensures refusal { IfErr result
-        (IsFileRefusal mesh_words.kind (F.seen files.old) (F.seen files.new) file.now) }
-    ensures reads { OnlyReads (F.seen files.old) (F.seen files.new) }
-    ensures asked { OnOk result (IfSome (F.seen files.old).folder (λ m. (F.seen files.new).taken
-        ≤ (F.seen files.old).taken + file_cost mesh_words.kind m file.now)) }
-{
-    load_mesh(alloc, files, file.text.as_str())
-}
-
-// Refuses an input file.
-fn refuse_mesh<E: Sink>(err: &mut E, file: &Text, why: MeshRefusal) -> Status
-    ensures status { result ≡ status_of mesh_words why }
-    ensures line { PutsText (E.seen err.old) (E.seen err.new) (text_of mesh_words file.now why) }
-{
-    refuse_mesh_file(err, file.text.as_str(), why)
 }
 
 /// `GenerateOverlapMesh`: finds all pieces that the source mesh in `a` and the target mesh in `b`

@@ -9,6 +9,7 @@ ghost use Rattle.tempest_top.specs.Outcome.{TheOutcome, is_usage};
 ghost use Rattle.tempest_top.specs.Promises.{IsAnswer, FolderAfterRefusal, TextAfterRefusal, PutsLine, Keeps};
 
 use crate::Status;
+use crate::cover::check_coverage;
 use crate::finish::{refuse_memory, refuse_usage};
 use crate::generate::{generate_cs, generate_ico, generate_rll};
 use crate::pairs::generate_overlap;
@@ -47,7 +48,7 @@ fn run_chosen<R: Threads, F: Files, O: Sink, E: Sink>(
         Chosen::OfflineMap { .. } => refuse_usage(err),
         Chosen::Apply { .. } => refuse_usage(err),
         Chosen::SelfRun { .. } => refuse_usage(err),
-        Chosen::Coverage { .. } => refuse_usage(err),
+        Chosen::Coverage { a, b } => check_coverage(alloc, &a, &b, files, out, err),
         Chosen::Check { .. } => refuse_usage(err),
     }
 }

@@ -1,13 +1,19 @@
-use Rattle.std.proofs.Common.{refl}
+use Rattle.std.proofs.Common.{Some, refl}
+use Rattle.vec_exact.specs.declared.RawMesh.{RawMesh}
+use Rattle.command_line.specs.declared.choices.Chosen.TheVariants.{Overlap}
 use Rattle.tempest_top.specs.Scene.{scene}
-use Rattle.tempest_top.proofs.TwoMeshes.{keeps_first, keeps_second, keeps_both}
+use Rattle.tempest_top.specs.Outcome.{IsOutcomeOfPair}
+use Rattle.tempest_top.specs.Promises.{IsOverlapText}
+use Rattle.tempest_top.proofs.TwoMeshes.{comes_first, comes_second, comes_both}
+use Rattle.tempest_top.proofs.Keeping.{keeps}
 use Rattle.tempest_top.proofs.pairs.generate_overlap.Goals as goal
 
 pub returns-in-Err-clause-kept : goal.returns-in-Err-clause-kept
 returns-in-Err-clause-kept g c =
     let before = scene (g.F.Files.seen c.args.files.now) (g.O.Sink.seen c.args.out.now) (g.E.Sink.seen c.args.err.now) in
     let after = scene (g.F.Files.seen c.mesh_of.new.files) (g.O.Sink.seen c.args.out.now) (g.E.Sink.seen c.refuse_mesh.new.err) in
-    keeps_first c.args.a.now c.args.b.now c.args.file.now c.args.workers before after c.in-Err.why _ c.in-Err.ensures.refusal c.in-Err.ensures.reads refl c.refuse_mesh.ensures.status c.refuse_mesh.ensures.line
+    keeps (Some (Overlap c.args.a.now c.args.b.now c.args.file.now c.args.workers)) before after _ refl
+    (comes_first (λ (source target : RawMesh). IsOutcomeOfPair source target c.args.file.now) (IsOverlapText c.args.file.now) (Some c.args.file.now) c.args.a.now c.args.b.now before after c.in-Err.why _ c.in-Err.ensures.refusal c.in-Err.ensures.reads refl c.refuse_mesh.ensures.status c.refuse_mesh.ensures.line)
 
 pub returns-in-Err-mesh_of-clause-kept : goal.returns-in-Err-mesh_of-clause-kept
 returns-in-Err-mesh_of-clause-kept g c =
@@ -15,8 +21,9 @@ returns-in-Err-mesh_of-clause-kept g c =
     let after = scene (g.F.Files.seen c.mesh_of-2.new.files) (g.O.Sink.seen c.args.out.now) (g.E.Sink.seen c.refuse_mesh-in-Err-mesh_of.new.err) in
     let first = c.in-Ok.ensures in
     let load = c.in-Err-mesh_of.ensures in
-    keeps_second c.args.a.now c.args.b.now c.args.file.now c.args.workers before (g.F.Files.seen c.mesh_of.new.files) after c.in-Ok.mesh c.in-Err-mesh_of.why _ first.mesh first.reads first.asked load.refusal load.reads refl
-    c.refuse_mesh-in-Err-mesh_of.ensures.status c.refuse_mesh-in-Err-mesh_of.ensures.line
+    keeps (Some (Overlap c.args.a.now c.args.b.now c.args.file.now c.args.workers)) before after _ refl
+    (comes_second (λ (source target : RawMesh). IsOutcomeOfPair source target c.args.file.now) (IsOverlapText c.args.file.now) (Some c.args.file.now) c.args.a.now c.args.b.now before (g.F.Files.seen c.mesh_of.new.files) after c.in-Ok.mesh c.in-Err-mesh_of.why _ first.mesh first.reads first.asked load.refusal load.reads refl
+    c.refuse_mesh-in-Err-mesh_of.ensures.status c.refuse_mesh-in-Err-mesh_of.ensures.line)
 
 pub returns-clause-kept : goal.returns-clause-kept
 returns-clause-kept g c =
@@ -24,5 +31,6 @@ returns-clause-kept g c =
     let after = scene (g.F.Files.seen c.write_pair.new.files) (g.O.Sink.seen c.write_pair.new.out) (g.E.Sink.seen c.write_pair.new.err) in
     let first = c.in-Ok.ensures in
     let second = c.in-Ok-mesh_of.ensures in
-    keeps_both c.args.a.now c.args.b.now c.args.file.now c.args.workers before (g.F.Files.seen c.mesh_of.new.files) (g.F.Files.seen c.mesh_of-2.new.files) after c.in-Ok.mesh c.in-Ok-mesh_of.mesh _ first.mesh first.reads first.asked second.mesh second.reads second.asked
-    c.write_pair.ensures.comes
+    keeps (Some (Overlap c.args.a.now c.args.b.now c.args.file.now c.args.workers)) before after _ refl
+    (comes_both (λ (source target : RawMesh). IsOutcomeOfPair source target c.args.file.now) (IsOverlapText c.args.file.now) (Some c.args.file.now) c.args.a.now c.args.b.now before (g.F.Files.seen c.mesh_of.new.files) (g.F.Files.seen c.mesh_of-2.new.files) after c.in-Ok.mesh c.in-Ok-mesh_of.mesh _ first.mesh first.reads first.asked second.mesh second.reads second.asked
+    c.write_pair.ensures.comes)
