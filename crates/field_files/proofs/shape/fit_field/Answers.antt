@@ -1,4 +1,4 @@
-use Rattle.std.proofs.Common.{rules, ◌≡◌, ◌*◌, ◌-◌, ℕ, List, length, take, Option, Some, None, IsSomeAnd, slice_get, ap, sym, subst, ◌∙◌, arith}
+use Rattle.std.proofs.Common.{rules, ◌≡◌, ◌*◌, ◌-◌, ℕ, length, take, Option, Some, None, IsSomeAnd, slice_get, ap, sym, subst, ◌∙◌, arith}
 use Rattle.nc_write.specs.Kinds.{size_of}
 use Rattle.nc_format.specs.declared.NcVar.{NcVar}
 use Rattle.field_files.specs.FieldShapes.{slices_of}
