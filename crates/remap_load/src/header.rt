@@ -39,8 +39,8 @@ fn header_in(alloc: Global, front: &[u8], len: u64) -> Result<Option<NcFile>, Lo
     }
 }
 
-// The head of a file of `len` bytes, of which `front` are the first ones. They grow to twice as many
-// as long as they end inside the header.
+// The head of a file of `len` bytes, of which `front` are the first ones. They grow to twice as
+// many as long as they end inside the header.
 fn load_from<F: Files>(
     alloc: Global,
     files: &mut F,
@@ -93,8 +93,8 @@ fn load_head<F: Files>(alloc: Global, files: &mut F, name: &str) -> Result<Head,
 ///
 /// The first 65,536 bytes are read, or all where there are fewer. As long as they end inside the
 /// header, twice as many are taken, or all; only the new ones are read. `Absent` says that there is
-/// no such file, `TooLong(n)` that it has n bytes, more than 2,147,483,647, and `Format(x)` that x is
-/// the first fault of its header. `Failed` and `NoMemory` may come in place of any answer.
+/// no such file, `TooLong(n)` that it has n bytes, more than 2,147,483,647, and `Format(x)` that x
+/// is the first fault of its header. `Failed` and `NoMemory` may come in place of any answer.
 pub fn load_header<F: Files>(alloc: Global, files: &mut F, name: &str) -> Result<Head, LoadFault>
     // What is answered is a head, and that of the file, where the folder is told.
     ensures head { IfOk result IsHead }

@@ -50,7 +50,8 @@ fn counted<R: Threads, L: Ledger>(
     requires parts { blank.parts ≡ L.parts }
     requires some { 0 < blank.parts }
     requires workers { (1 ≤ workers) × (workers ≤ 64) }
-    ensures overlap { IfOk result (HoldsOverlap (λ columns pieces. AreColumnsOf pieces columns) a.now b.now) }
+    ensures overlap { IfOk result
+        (HoldsOverlap (λ columns pieces. AreColumnsOf pieces columns) a.now b.now) }
     ensures refusal { IfErr result (IsRefusalOf a.now b.now) }
 {
     let mut steps = Steps::<L>::new(blank);
@@ -66,7 +67,8 @@ fn meet<R: Threads>(
     workers: u32,
 ) -> Result<Columns, RunFault>
     requires { (1 ≤ workers) × (workers ≤ 64) }
-    ensures overlap { IfOk result (HoldsOverlap (λ columns pieces. AreColumnsOf pieces columns) a.now b.now) }
+    ensures overlap { IfOk result
+        (HoldsOverlap (λ columns pieces. AreColumnsOf pieces columns) a.now b.now) }
     ensures refusal { IfErr result (IsRefusalOf a.now b.now) }
 {
     counted::<R, Brand>(rt, alloc, a, b, workers, Blank::new(1))
@@ -79,9 +81,12 @@ fn overlap_file(
     faces_b: u32,
     columns: Columns,
 ) -> Result<(Vec<u8>, String), NoMemory>
-    requires held { (o : OverlapParts) × IsInColumns o faces_a faces_b columns × (length (file_of (overlap_document o)) ≤ 2147483647) }
-    ensures bytes { (o : OverlapParts) → IsInColumns o faces_a faces_b columns → IfOk result (λ p. p.0.items ≡ file_of (overlap_document o)) }
-    ensures text { (o : OverlapParts) → IsInColumns o faces_a faces_b columns → IfOk result (λ p. string_bytes p.1 ≡ pieces_text (length o.pieces)) }
+    requires held { (o : OverlapParts) × IsInColumns o faces_a faces_b columns
+        × (length (file_of (overlap_document o)) ≤ 2147483647) }
+    ensures bytes { (o : OverlapParts) → IsInColumns o faces_a faces_b columns
+        → IfOk result (λ p. p.0.items ≡ file_of (overlap_document o)) }
+    ensures text { (o : OverlapParts) → IsInColumns o faces_a faces_b columns
+        → IfOk result (λ p. string_bytes p.1 ≡ pieces_text (length o.pieces)) }
 {
     let pieces = columns.sources.len();
     let text = format!(in alloc; "pieces {pieces}\n")?;
