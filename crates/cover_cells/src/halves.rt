@@ -53,7 +53,8 @@ fn half(
     requires cell { IsCell a.now (corners_of b.now j) cell.now }
     requires named { IsNamed a.now (corners_of b.now j) p }
     ensures { let target = corners_of b.now j in
-        IfOk result (λ part. MatchOption part (HasNoHalf a.now target cell.now p) (IsHalf a.now target cell.now p)) }
+        IfOk result (λ part.
+        MatchOption part (HasNoHalf a.now target cell.now p) (IsHalf a.now target cell.now p)) }
 {
     let sides = sides_on(alloc, a, b, j, &cell.items, plane_of(a, b, j, p))?;
     match left_of(&sides) {

@@ -25,7 +25,8 @@ fn cell_planes(
 ) -> Result<Vec<Vec3>, NoMemory>
     requires target { (1 ≤ j) × (j ≤ length b.now.faces) }
     requires named { All (IsNamed a.now (corners_of b.now j)) cell.now }
-    ensures value { IfOk result (λ planes. planes.items ≡ planes_of a.now (corners_of b.now j) cell.now) }
+    ensures value { IfOk result (λ planes.
+        planes.items ≡ planes_of a.now (corners_of b.now j) cell.now) }
     ensures size { IfOk result (λ planes. All Is37 planes.items) }
 {
     let mut planes = Vec::with_capacity(alloc, cell.len())?;
@@ -45,7 +46,8 @@ fn cell_corners(
 ) -> Result<Vec<Vec3>, NoMemory>
     requires target { (1 ≤ j) × (j ≤ length b.now.faces) }
     requires named { All (IsNamed a.now (corners_of b.now j)) cell.now }
-    ensures value { IfOk result (λ corners. AreCorners (planes_of a.now (corners_of b.now j) cell.now) corners.items) }
+    ensures value { IfOk result (λ corners.
+        AreCorners (planes_of a.now (corners_of b.now j) cell.now) corners.items) }
     ensures size { IfOk result (λ corners. All Is75 corners.items) }
 {
     let mut corners = Vec::with_capacity(alloc, cell.len())?;
@@ -96,7 +98,8 @@ fn has_no_corner_before(plane: Vec3, corners: &[Vec3]) -> bool
 fn is_behind_a_plane(a: &Mesh, i: u32, planes: &[Vec3]) -> bool
     requires source { (1 ≤ i) × (i ≤ length a.now.faces) }
     requires size { All Is37 planes.now }
-    ensures { IsTrue result → ((t : ℕ) × t < length planes.now × NonePositive (vector_at planes.now t) (corners_of a.now i)) }
+    ensures { IsTrue result → ((t : ℕ) × t < length planes.now
+        × NonePositive (vector_at planes.now t) (corners_of a.now i)) }
 {
     for p in planes {
         if has_no_node_before(a, i, *p) {
@@ -110,7 +113,8 @@ fn is_behind_a_plane(a: &Mesh, i: u32, planes: &[Vec3]) -> bool
 fn is_beyond_an_edge(a: &Mesh, i: u32, corners: &[Vec3]) -> bool
     requires source { (1 ≤ i) × (i ≤ length a.now.faces) }
     requires corners { All Is75 corners.now }
-    ensures { IsTrue result → ((t : ℕ) × t < length (corners_of a.now i) × NonePositive (face_plane (corners_of a.now i) t) corners.now) }
+    ensures { let face = corners_of a.now i in
+        IsTrue result → ((t : ℕ) × t < length face × NonePositive (face_plane face t) corners.now) }
 {
     for t in 0..edge_count(a, i) {
         if has_no_corner_before(plane(a, i, t + 1), corners) {
@@ -127,8 +131,8 @@ fn is_kept_away(a: &Mesh, i: u32, planes: &[Vec3], corners: &[Vec3]) -> bool
     requires ring { Convex (length planes.now) (vector_at planes.now) }
     requires corners { All Is75 corners.now }
     requires at { AreCorners planes.now corners.now }
-    ensures { IsTrue result → (d : Direction) → AllPositive (length planes.now) (vector_at planes.now) d
-        → IsBeyondAnEdge (corners_of a.now i) d }
+    ensures { IsTrue result → (d : Direction)
+        → AllPositive (length planes.now) (vector_at planes.now) d → IsBeyondAnEdge (corners_of a.now i) d }
 {
     // The face is accepted.
     let _edges = edge_count(a, i);
@@ -166,7 +170,8 @@ fn is_wanted(
 
 // Puts x at the end of the list, if it is wanted.
 fn put_if(list: &mut Vec<u32>, x: u32, wanted: bool) -> Result<(), NoMemory>
-    ensures { OnOk result (list.new.items ≡ (if wanted then list.old.items ++ x ∷ [] else list.old.items)) }
+    ensures { OnOk result (
+        list.new.items ≡ (if wanted then list.old.items ++ x ∷ [] else list.old.items)) }
 {
     if wanted {
         list.push(x)?;
@@ -188,13 +193,15 @@ pub fn near_faces(
     requires target { (1 ≤ j) × (j ≤ length b.now.faces) }
     requires cell { IsCell a.now (corners_of b.now j) cell.now }
     requires sources { All (IsSource a.now) faces.now }
-    ensures among { IfOk result (λ near. All (λ i. IsSource a.now i × Contains faces.now i) near.items) }
+    ensures among { IfOk result (λ near.
+        All (λ i. IsSource a.now i × Contains faces.now i) near.items) }
     // Each face is there, or each direction in the cell is beyond one of its edges.
     ensures away { IfOk result (λ near. (t : ℕ) → t < length faces.now → t ≢ skip
         → Contains near.items (slice_index faces.now t)
         ⊎ IsAway a.now (corners_of b.now j) cell.now (slice_index faces.now t)) }
     ensures few { IfOk result (λ near. length near.items ≤ length faces.now) }
-    ensures fewer { skip < length faces.now → IfOk result (λ near. length near.items < length faces.now) }
+    ensures fewer { skip < length faces.now
+        → IfOk result (λ near. length near.items < length faces.now) }
 {
     let planes = cell_planes(alloc, a, b, j, &cell.items)?;
     let corners = cell_corners(alloc, a, b, j, &cell.items)?;

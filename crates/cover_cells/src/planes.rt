@@ -88,7 +88,8 @@ pub fn sides_on(
     requires target { (1 ≤ j) × (j ≤ length b.now.faces) }
     requires named { All (IsNamed a.now (corners_of b.now j)) cell.now }
     requires size { Is37 x }
-    ensures { IfOk result (λ sides. AreSides (planes_of a.now (corners_of b.now j) cell.now) x sides.items) }
+    ensures { IfOk result (λ sides.
+        AreSides (planes_of a.now (corners_of b.now j) cell.now) x sides.items) }
 {
     let mut sides = Vec::with_capacity(alloc, cell.len())?;
     for t in 0..cell.len() {

@@ -28,7 +28,8 @@ fn has_negative(sides: &[i128]) -> bool
 fn rise(sides: &[i128]) -> Option<usize>
     ensures { let side = side_at sides.now in
         let next = after (length sides.now) in
-        MatchOption result ((t : ℕ) → t < length sides.now → side t ≤ℤ pos 0 → side (next t) ≤ℤ pos 0)
+        MatchOption result
+        ((t : ℕ) → t < length sides.now → side t ≤ℤ pos 0 → side (next t) ≤ℤ pos 0)
         (λ t. t < length sides.now × side t ≤ℤ pos 0 × pos 0 <ℤ side (next t)) }
 {
     for t in 0..sides.len() {
@@ -46,8 +47,10 @@ fn rise(sides: &[i128]) -> Option<usize>
 fn positive_run(sides: &[i128], first: usize) -> usize
     requires { first < length sides.now }
     ensures within { result ≤ length sides.now }
-    ensures positive { (t : ℕ) → t < result → pos 0 <ℤ side_at sides.now (shifted (length sides.now) first t) }
-    ensures stop { result < length sides.now → side_at sides.now (shifted (length sides.now) first result) ≤ℤ pos 0 }
+    ensures positive { (t : ℕ) → t < result
+        → pos 0 <ℤ side_at sides.now (shifted (length sides.now) first t) }
+    ensures stop { result < length sides.now
+        → side_at sides.now (shifted (length sides.now) first result) ≤ℤ pos 0 }
 {
     for t in 0..sides.len() {
         let place = place_after(sides.len(), first, t);

@@ -32,7 +32,8 @@ fn target_edges(alloc: Global, b: &Mesh, j: u32) -> Result<Vec<CellPlane>, NoMem
 /// Target `j` of `b` as its only cell; faces count from 1. Its only error is want of memory.
 pub fn whole_target(alloc: Global, b: &Mesh, j: u32) -> Result<Cells, NoMemory>
     requires target { (1 ≤ j) × (j ≤ length b.now.faces) }
-    ensures cells { IfOk result (λ cells. (sources : Sources) → All (IsCell sources (corners_of b.now j)) cells) }
+    ensures cells { IfOk result (λ cells. (sources : Sources)
+        → All (IsCell sources (corners_of b.now j)) cells) }
 
     // The only cell has the directions inside the target,
     ensures inside { let target = corners_of b.now j in

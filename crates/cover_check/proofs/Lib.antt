@@ -5,3 +5,4 @@ pub mod Insides
 pub mod Divided
 pub mod PutParts
 pub mod Targets
+pub mod OneCount

@@ -44,3 +44,7 @@ pub record IsCountWithin (sources targets : RawMesh) (from end : ℕ) (count : C
 -- the count of all targets
 abbrev pub IsCoverCount : RawMesh → RawMesh → CoverCount → Type 0
 IsCoverCount sources targets count = IsCountWithin sources targets 1 (length targets.faces + 1) count
+
+-- there is at most one such count
+abbrev pub OneCoverCount : Type 0
+OneCoverCount = (sources targets : RawMesh) (count other : CoverCount) → IsCoverCount sources targets count → IsCoverCount sources targets other → count ≡ other

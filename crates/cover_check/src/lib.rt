@@ -5,10 +5,12 @@
 #![tactic(auto)]
 
 mod counting;
+mod laws;
 mod parts;
 mod rest;
 #[cfg(test)]
 mod tests;
 
 pub use counting::{CoverCount, coverage};
+pub use laws::law_one_cover_count;
 pub use rest::{remainder, uncovered};

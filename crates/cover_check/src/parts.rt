@@ -50,9 +50,10 @@ fn spread(
     requires sources { All (IsSource a.now) faces.now }
     requires skipped { skip < length faces.now
         → All (λ cell. IsAway a.now (corners_of b.now j) cell (slice_index faces.now skip)) cells }
-    ensures divided { OnOk result ((all : List ℕ) (others : List PartView)
-        → IsDivided a.now (corners_of b.now j) all (map view_of parts.old.items ++ (others ++ with_faces faces.now cells)) left.old
-        → IsDivided a.now (corners_of b.now j) all (map view_of parts.new.items ++ others) left.new) }
+    ensures divided { let Divides = IsDivided a.now (corners_of b.now j) in
+        OnOk result ((all : List ℕ) (others : List PartView)
+        → Divides all (map view_of parts.old.items ++ (others ++ with_faces faces.now cells)) left.old
+        → Divides all (map view_of parts.new.items ++ others) left.new) }
     ensures sound { (n : ℕ) → length faces.now ≤ n → OnOk result (
         All (IsSoundPart a.now (corners_of b.now j) n) (map view_of parts.old.items)
         → All (IsSoundPart a.now (corners_of b.now j) n) (map view_of parts.new.items)) }
@@ -92,9 +93,10 @@ fn divide(
     requires ring { IsCell a.now (corners_of b.now j) part.cell }
     requires sources { All (IsSource a.now) part.faces.items }
     requires some { 1 ≤ length part.faces.items }
-    ensures divided { OnOk result ((all : List ℕ) (others : List PartView)
-        → IsDivided a.now (corners_of b.now j) all (map view_of parts.old.items ++ (others ++ view_of part ∷ [])) left.old
-        → IsDivided a.now (corners_of b.now j) all (map view_of parts.new.items ++ others) left.new) }
+    ensures divided { let Divides = IsDivided a.now (corners_of b.now j) in
+        OnOk result ((all : List ℕ) (others : List PartView)
+        → Divides all (map view_of parts.old.items ++ (others ++ view_of part ∷ [])) left.old
+        → Divides all (map view_of parts.new.items ++ others) left.new) }
     ensures fewer { (n : ℕ) → length part.faces.items ≤ n + 1 → OnOk result (
         All (IsSoundPart a.now (corners_of b.now j) n) (map view_of parts.old.items)
         → All (IsSoundPart a.now (corners_of b.now j) n) (map view_of parts.new.items)) }
@@ -117,7 +119,8 @@ pub fn divided(
     left: &mut Cells,
 ) -> Result<Vec<Part>, NoMemory>
     requires target { (1 ≤ j) × (j ≤ length b.now.faces) }
-    requires sound { (n : ℕ) × All (IsSoundPart a.now (corners_of b.now j) n) (map view_of parts.items) }
+    requires sound { (n : ℕ)
+        × All (IsSoundPart a.now (corners_of b.now j) n) (map view_of parts.items) }
     ensures divided { IfOk result (λ next. (all : List ℕ)
         → IsDivided a.now (corners_of b.now j) all (map view_of parts.items) left.old
         → IsDivided a.now (corners_of b.now j) all (map view_of next.items) left.new) }
@@ -145,8 +148,10 @@ pub fn whole(
     requires target { (1 ≤ j) × (j ≤ length b.now.faces) }
     requires sources { All (IsSource a.now) faces.now }
     requires none { left.old ≡ [] }
-    ensures divided { IfOk result (λ parts. IsDivided a.now (corners_of b.now j) faces.now (map view_of parts.items) left.new) }
-    ensures sound { IfOk result (λ parts. All (IsSoundPart a.now (corners_of b.now j) (length faces.now)) (map view_of parts.items)) }
+    ensures divided { IfOk result (λ parts.
+        IsDivided a.now (corners_of b.now j) faces.now (map view_of parts.items) left.new) }
+    ensures sound { let IsSound = IsSoundPart a.now (corners_of b.now j) (length faces.now) in
+        IfOk result (λ parts. All IsSound (map view_of parts.items)) }
 {
     let mut parts = Vec::new(alloc);
     let target = whole_target(alloc, b, j)?;

@@ -97,7 +97,8 @@ pub fn uncovered(
     requires index { IsIndexOf index.now a.now }
     requires target { (1 ≤ j) × (j ≤ length b.now.faces) }
     ensures covered { let target = corners_of b.now j in
-        IfOk result (λ d. MatchOption d (IsCovered a.now target) (IsUncoveredDirection a.now target)) }
+        IfOk result (λ d.
+        MatchOption d (IsCovered a.now target) (IsUncoveredDirection a.now target)) }
     ensures size { IfOk result (λ d. IfSome d (Within 151115727451828646838271)) }
 {
     let mut found = Vec::new(alloc);

@@ -9,6 +9,7 @@ use Rattle.std.proofs.lemmas.List.{get_or-map, get_or_past, length-map, take-app
 use Rattle.std.proofs.lemmas.List.Elements.{All-head, All-tail}
 use Rattle.std.proofs.lemmas.List.FromFn.{length-map-range_with_len}
 use Rattle.std.proofs.lemmas.List.Sums.{get_or-le-sum_by}
+use Rattle.nc_write.specs.declared.DocDim.{DocDim}
 use Rattle.nc_write.specs.declared.NcKind.{NcKind}
 use Rattle.nc_write.specs.Kinds.{size_of}
 use Rattle.nc_write.specs.Extents.{lens_of, product_of, has_records, has_several, piece_count, piece_len, piece_total, share_of}
@@ -25,7 +26,7 @@ use Rattle.exodus_mesh.specs.MeshIn.{numbers_of_var, values_in}
 use Rattle.field_files.specs.declared.NoFit.{NoFit}
 use Rattle.field_files.specs.FileHeader.{IsFileHeader, dims_of, dims_at}
 use Rattle.field_files.specs.FieldNames.{len_by, last_len, IsFieldPlace}
-use Rattle.field_files.specs.FieldShapes.{len_before_last, is_product, trailing_count, whole_lens, slices_of, led_by, fitted, field_over}
+use Rattle.field_files.specs.FieldShapes.{len_before_last, is_product, trailing_by, trailing_count, whole_lens, slices_of, led_by, fitted, field_over}
 use Rattle.exodus_mesh.proofs.VarValues.{got, bytes_len, has_pieces}
 use Rattle.field_files.proofs.ShortHeaders.{IsShortVar, header_is_short}
 use Rattle.field_files.proofs.FoundFields.{field_place_ok}
@@ -299,3 +300,15 @@ pub values_are : (file : NcFile) (place count : ℕ) (v : NcVar) → slice_get f
 values_are file place count v there pieces bytes h =
     let inside = has_pieces bytes file place v h there in
     ap (λ o. length (numbers_of_var bytes o)) there ∙ numbers_len v.kind (gathered v bytes) count (bytes_len v bytes inside ∙ pieces)
+
+-- the same, by what was read of the header
+pub record IsHere (file : NcFile) (n_a : ℕ) (v : NcVar) (trailing : ℕ) : Type 0 where
+  pub count : trailing_count n_a (lens_of file.dims) v.dims ≡ Some trailing
+  pub slices : HasSlices file n_a v trailing
+
+pub is_here : (file : NcFile) (place n_a : ℕ) (v : NcVar) (trailing last before : ℕ) (dims : List DocDim) (ids : List ℕ) → IsFileHeader file → IsFieldPlace file place → (let o : Option NcVar = Some v in o ≡ slice_get file.vars place)
+    → dims ≡ file.dims → ids ≡ v.dims → last ≡ last_len (lens_of dims) ids → before ≡ len_before_last (lens_of dims) ids → (let o : Option ℕ = Some trailing in o ≡ trailing_by n_a before last) → IsHere file n_a v trailing
+is_here file place n_a v trailing last before dims ids h found there same_dims same_ids is_last is_before is =
+    let count : trailing_count n_a (lens_of file.dims) v.dims ≡ Some trailing =
+    ap₂ (λ (a : List DocDim) (b : List ℕ). trailing_count n_a (lens_of a) b) (sym same_dims) (sym same_ids) ∙ ap₂ (λ (a b : ℕ). trailing_by n_a a b) (sym is_before) (sym is_last) ∙ sym is in
+    record { count = count; slices = has_slices file place n_a v trailing h found (sym there) count }

@@ -15,12 +15,14 @@ len_before_last lens ids = if nat_lt 1 (length ids) then len_by lens (slice_get 
 abbrev pub is_product : ℕ → ℕ → ℕ → Bool
 is_product n first second = nat_lt 0 first && nat_lt 0 second && (first * second == n)
 
--- How many dimensions trail: the last one, where it has the length n_a; else the last two, where neither is the record
--- dimension and the product of their lengths is n_a; else there are none.
+-- How many dimensions trail, by the lengths of the last two: the last one, where it has the length n_a; else the last
+-- two, where neither is the record dimension and the product of their lengths is n_a; else there are none.
+abbrev pub trailing_by : ℕ → ℕ → ℕ → Option ℕ
+trailing_by n_a before last =
+    if last == n_a then Some 1 else (if is_product n_a before last then Some 2 else None)
+
 abbrev pub trailing_count : ℕ → List ℕ → List ℕ → Option ℕ
-trailing_count n_a lens ids =
-    if last_len lens ids == n_a then Some 1
-    else (if is_product n_a (len_before_last lens ids) (last_len lens ids) then Some 2 else None)
+trailing_count n_a lens ids = trailing_by n_a (len_before_last lens ids) (last_len lens ids)
 
 -- the lengths of all dimensions, with the number of records as that of the record dimension
 abbrev pub whole_lens : ℕ → List ℕ → List ℕ

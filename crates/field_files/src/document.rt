@@ -87,7 +87,12 @@ fn make_fill_atts(alloc: Global, fill: Option<i32>) -> Result<Vec<DocAtt>, Alloc
 
 // A document over the dimensions of a field file.
 fn document_over(frame: Frame, atts: Vec<DocAtt>, vars: Vec<DocVar>) -> NcDoc
-    ensures { result ≡ record { records = frame.records; dims = frame.dims; atts = atts.items; vars = vars.items } }
+    ensures { result ≡ record {
+      records = frame.records;
+      dims = frame.dims;
+      atts = atts.items;
+      vars = vars.items;
+    } }
 {
     NcDoc {
         records: frame.records,

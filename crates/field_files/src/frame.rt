@@ -70,7 +70,8 @@ fn each_once(alloc: Global, dim_count: usize, leading: &[u32]) -> Result<Kept, A
     requires ids { All (λ id. id < dim_count) leading.now }
     requires few { length leading.now < 2 ^ 31 }
     ensures ids { IfOk result (λ kept. kept.ids.items ≡ each_once leading.now) }
-    ensures places { IfOk result (λ kept. ArePlacesOf (each_once leading.now) dim_count kept.places.items) }
+    ensures places { IfOk result
+        (λ kept. ArePlacesOf (each_once leading.now) dim_count kept.places.items) }
 {
     let mut ids = Vec::new(alloc);
     let mut places = no_places(alloc, dim_count)?;

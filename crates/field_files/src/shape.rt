@@ -6,7 +6,7 @@ ghost use Rattle.nc_format.specs.Header.{IsHeader};
 ghost use Rattle.exodus_mesh.specs.MeshIn.{values_in};
 ghost use Rattle.field_files.specs.FileHeader.{IsFileHeader};
 ghost use Rattle.field_files.specs.FieldNames.{IsFieldPlace};
-ghost use Rattle.field_files.specs.FieldShapes.{len_before_last, is_product, trailing_count, field_over, Fits};
+ghost use Rattle.field_files.specs.FieldShapes.{len_before_last, is_product, trailing_by, field_over, Fits};
 
 use crate::finding::{last_len, len_along, var_at};
 use crate::{FieldVar, NoFit};
@@ -31,15 +31,14 @@ fn is_product(n: u32, first: u32, second: u32) -> bool
     first > 0 && second > 0 && u64::from(first) * u64::from(second) == u64::from(n)
 }
 
-// How many dimensions lie along n_a sources, where any do.
-fn trailing_count(dims: &[NcDim], ids: &[u32], n_a: u32) -> Option<usize>
-    ensures { result ≡ trailing_count n_a (lens_of dims.now) ids.now }
+// How many dimensions lie along n_a sources, where any do, by the lengths of the last two.
+fn trailing_count(n_a: u32, before: u32, last: u32) -> Option<usize>
+    ensures { result ≡ trailing_by n_a before last }
 {
-    let last = last_len(dims, ids);
     if last == n_a {
         return Some(1);
     }
-    if is_product(n_a, len_before_last(dims, ids), last) {
+    if is_product(n_a, before, last) {
         return Some(2);
     }
     None
@@ -58,7 +57,8 @@ fn value_count(var: &NcVar) -> u64
 fn slice_count(var: &NcVar, n_a: u32) -> u32
     requires sources { 1 ≤ n_a }
     requires short { var.now.parts * var.now.part ≤ 2147483647 }
-    requires whole { (slices : ℕ) × (var.now.parts * var.now.part ≡ slices * n_a * size_of var.now.kind) }
+    requires whole { (slices : ℕ)
+        × (var.now.parts * var.now.part ≡ slices * n_a * size_of var.now.kind) }
     ensures slices { (slices : ℕ)
         → var.now.parts * var.now.part ≡ slices * n_a * size_of var.now.kind → result ≡ slices }
     ensures few { result ≤ 2147483647 }
@@ -91,11 +91,11 @@ pub fn fit_field(file: &NcFile, place: u32, n_a: u32) -> Result<FieldVar, NoFit>
     let Some(var) = var_at(file, place) else {
         return Err(NoFit { last_len: 0 });
     };
-    let dims = &file.dims.items;
-    let ids = &var.dims.items;
-    let Some(trailing) = trailing_count(dims, ids, n_a) else {
-        let last_len = last_len(dims, ids);
-        return Err(NoFit { last_len });
+    let dims = file.dims.items.as_slice();
+    let ids = var.dims.items.as_slice();
+    let last = last_len(dims, ids);
+    let Some(trailing) = trailing_count(n_a, len_before_last(dims, ids), last) else {
+        return Err(NoFit { last_len: last });
     };
     Ok(FieldVar {
         var: place,

@@ -7,7 +7,11 @@ ghost use Rattle.nc_write.specs.Form.{IsWellFormed};
 ghost use Rattle.field_files.specs.FileHeader.{IsFileHeader};
 ghost use Rattle.field_files.specs.FieldShapes.{Fits};
 
-use crate::{FieldVar, field_doc, find_field, fit_field, read_field};
+use crate::{
+    FieldFault, FieldVar, field_doc, fill_value, find_field, fit_field, masked_field_doc,
+    read_field,
+};
+use exodus_mesh::{NameFault, NameId};
 use nc_format::{NcFile, read_header};
 use nc_write::{NcDoc, length_of};
 use std::test::*;
@@ -181,5 +185,85 @@ fn octants(rt: HostRuntime) -> Result<(), Fail> {
     let whole = [1, 2, 3, 4, 5, 6, 7, 8];
     let doc = document(&rt, &file, b"x", 8, 8, &whole, &[0; 8])?;
     assert_eq!(rt; length_of(&doc), 288);
+    Ok(())
+}
+
+// A dimension that leads twice stands in the document once.
+#[test]
+fn leading_twice(rt: HostRuntime) -> Result<(), Fail> {
+    let bytes = bytes_of(&rt, MIXED)?;
+    let file = header_of(&rt, &bytes)?;
+    let one = fitted(&file, b"y", 3)?;
+    assert_eq!(rt; one.leading, 2);
+    assert_eq!(rt; one.slices, 4);
+    let two = fitted(&file, b"y", 6)?;
+    assert_eq!(rt; two.leading, 1);
+    assert_eq!(rt; two.slices, 2);
+    let doc = document(&rt, &file, b"y", 3, 1, &[2, 5, 8, 11], &[0; 4])?;
+    assert_eq!(rt; doc.dims.items.len(), 2);
+    assert!(rt; doc.vars.items[0].dims.items.as_slice() == [0, 0, 1].as_slice());
+    assert_eq!(rt; doc.records, 0);
+    Ok(())
+}
+
+fn fault_of(file: &NcFile, name: &[u8]) -> Option<NameFault>
+    requires { IsSound file.now }
+{
+    match find_field(file, name) {
+        Ok(_) => None,
+        Err(fault) => Some(fault),
+    }
+}
+
+#[test]
+fn names_and_fills(rt: HostRuntime) -> Result<(), Fail> {
+    let bytes = bytes_of(&rt, MIXED)?;
+    let file = header_of(&rt, &bytes)?;
+    let rows: [(&[u8], Option<NameFault>); 7] = [
+        (b"x", None),
+        (b"y", None),
+        (b"v", Some(NameFault::Missing(NameId::Var))),
+        (b"z", Some(NameFault::Kind(NameId::Var))),
+        (b"u", Some(NameFault::Shape(NameId::Var))),
+        (b"w", Some(NameFault::Shape(NameId::Var))),
+        (b"r", Some(NameFault::Shape(NameId::Var))),
+    ];
+    for (name, fault) in rows {
+        assert!(rt; fault_of(&file, name) == fault);
+    }
+    assert!(rt; fill_value(&file, 0).is_none());
+    assert!(rt; fill_value(&file, 1) == Some(-5));
+    Ok(())
+}
+
+// A map with as many sources as no dimensions have.
+#[test]
+fn no_fit(rt: HostRuntime) -> Result<(), Fail> {
+    let bytes = bytes_of(&rt, MIXED)?;
+    let file = header_of(&rt, &bytes)?;
+    match read_field(rt.alloc(), &file, b"y", 5, &bytes) {
+        Err(FieldFault::Length(3)) => Ok(()),
+        _ => Err("another length was expected".into()),
+    }
+}
+
+// The file of a masked field, with a fill value and without one.
+#[test]
+fn masked(rt: HostRuntime) -> Result<(), Fail> {
+    let bytes = bytes_of(&rt, THREE_RECORDS)?;
+    let file = header_of(&rt, &bytes)?;
+    let field = fitted(&file, b"x", 2)?;
+    if field.slices != 3 {
+        return Err("three slices were expected".into());
+    }
+    for (fill, len) in [(Some(7), 396), (None, 360)] {
+        let whole = ints(&rt, &[0, -1, -2])?;
+        let rest = longs(&rt, &[1, 0, 1])?;
+        let part = longs(&rt, &[3, 3, 3])?;
+        let Ok(doc) = masked_field_doc(rt.alloc(), &file, field, 1, fill, whole, rest, part) else {
+            return Err("out of memory".into());
+        };
+        assert_eq!(rt; length_of(&doc), len);
+    }
     Ok(())
 }

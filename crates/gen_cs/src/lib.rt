@@ -29,7 +29,8 @@ pub fn make(alloc: Global, n: u32) -> Result<RawMesh, NoMemory>
     requires greatest { n ≤ 400 }
     ensures mesh { IfOk result (λ raw. raw ≡ cubed_sphere n) }
     ensures accepted { IfOk result (λ raw. All (IsAccepted raw.nodes) raw.faces) }
-    ensures accepted_nodes { IfOk result (λ raw. All (λ node. IsAcceptedNode (vector_of node)) raw.nodes) }
+    ensures accepted_nodes { IfOk result (λ raw.
+        All (λ node. IsAcceptedNode (vector_of node)) raw.nodes) }
     ensures nodes { IfOk result (λ raw. length raw.nodes ≡ 6 * (n * n) + 2) }
     ensures faces { IfOk result (λ raw. length raw.faces ≡ 6 * (n * n)) }
     ensures squares { IfOk result (λ raw. All (λ face. length face ≡ 4) raw.faces) }

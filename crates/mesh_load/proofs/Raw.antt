@@ -24,7 +24,7 @@ use Rattle.remap_load.proofs.Fronts.{on_file}
 use Rattle.remap_load.proofs.Reading.{asks_on}
 use Rattle.remap_load.specs.Pieces.{numbers_of, numbers_at, count_of, count_at, bytes_at}
 use Rattle.remap_load.proofs.Costs.{numbers_len}
-use Rattle.mesh_load.specs.Places.{coord_places}
+use Rattle.exodus_mesh.specs.MeshIn.{coord_places}
 use Rattle.mesh_load.specs.MeshFile.{coord_bytes, block_bytes, mesh_bytes}
 
 -- a variable of a type of whole numbers stands at the place

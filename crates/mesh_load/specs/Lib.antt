@@ -1,3 +1,2 @@
 pub mod MeshFile
-pub mod Places
 pub mod Refusals

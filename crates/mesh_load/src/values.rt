@@ -1,37 +1,18 @@
 // The raw mesh of a file whose header has the variables of one.
-ghost use Rattle.std.specs.Prelude.{◌≡◌, ◌∷◌, [], List, ℕ, length, map, Ok, IfOk, IfErr, OnOk};
+ghost use Rattle.std.specs.Prelude.{◌≡◌, length, Ok, IfOk, IfErr};
 ghost use Rattle.vec_exact.specs.Counts.{AreAllowedCounts};
 ghost use Rattle.remap_io.specs.Folder.{OnFile};
-ghost use Rattle.exodus_mesh.specs.declared.vars.BlockVar.{BlockVar};
 ghost use Rattle.exodus_mesh.specs.MeshNames.{mesh_vars_in};
 ghost use Rattle.exodus_mesh.specs.MeshIn.{mesh_at};
 ghost use Rattle.remap_load.specs.Heads.{IsHead, IsHeadOfBytes};
 ghost use Rattle.remap_load.specs.Loading.{IsReadFault, ReadsAtMost};
 ghost use Rattle.mesh_load.specs.MeshFile.{mesh_bytes};
-ghost use Rattle.mesh_load.specs.Places.{coord_places};
 
-use exodus_mesh::{BlockVar, CoordVars, MeshVars, mesh_from};
+use exodus_mesh::{MeshVars, block_places, coord_places, mesh_from};
 use remap_io::Files;
 use remap_load::{Head, LoadFault, load_lists};
-use std::alloc::{AllocError, Global};
+use std::alloc::Global;
 use vec_exact::{Ints, RawMesh};
-
-// The places of the coordinates in the list of variables.
-fn coord_places(alloc: Global, coord: CoordVars) -> Result<Vec<u32>, AllocError>
-    ensures { IfOk result (λ places. places.items ≡ coord_places coord) }
-{
-    match coord {
-        CoordVars::Whole(coord) => [coord].to_vec(alloc),
-        CoordVars::Split(x, y, z) => [x, y, z].to_vec(alloc),
-    }
-}
-
-// Those of the blocks.
-fn block_places(alloc: Global, blocks: &[BlockVar]) -> Result<Vec<u32>, AllocError>
-    ensures { IfOk result (λ places. places.items ≡ map (λ (b : BlockVar). b.var) blocks.now) }
-{
-    blocks.iter().map(|block| block.var).collect(alloc)
-}
 
 /// The raw mesh of the variables that the header has.
 pub fn load_raw<F: Files>(

@@ -4,3 +4,5 @@ pub mod Found
 pub mod Panels
 pub mod Squares
 pub mod Spheres
+pub mod Lengths
+pub mod OneReport

@@ -20,3 +20,7 @@ pub record IsMeshReportOf (mesh : RawMesh) (report : MeshReport) : Type 0 where
   -- all directed edges, each counted in every face that has it, are so many more than the different ones
   pub doubled : (different : ℕ) × IsEdgeCount (IsEdge mesh) different × (length (edges_of mesh) ≡ different + report.doubled)
   pub covered : IsTrue report.covered ↔ CoversSphere mesh
+
+-- a mesh has at most one report
+abbrev pub OneMeshReport : Type 0
+OneMeshReport = (mesh : RawMesh) (report other : MeshReport) → IsMeshReportOf mesh report → IsMeshReportOf mesh other → report ≡ other

@@ -88,7 +88,8 @@ pub struct EdgeCounts {
 // are than different ones.
 pub fn edge_counts(alloc: Global, mesh: &Mesh) -> Result<EdgeCounts, NoMemory>
     ensures unpaired { IfOk result (λ counts. IsEdgeCount (IsUnpaired mesh.now) counts.unpaired) }
-    ensures doubled { IfOk result (λ counts. (different : ℕ) × IsEdgeCount (IsEdge mesh.now) different
+    ensures doubled { IfOk result (λ counts. (different : ℕ)
+        × IsEdgeCount (IsEdge mesh.now) different
         × (length (edges_of mesh.now) ≡ different + counts.doubled)) }
 {
     let mut edges = all_edges(alloc, mesh)?;

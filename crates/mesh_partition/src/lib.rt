@@ -10,5 +10,5 @@ mod reporting;
 #[cfg(test)]
 mod tests;
 
-pub use laws::law_six_faces_decide;
+pub use laws::{law_one_mesh_report, law_six_faces_decide};
 pub use reporting::{MeshReport, report};

@@ -84,10 +84,12 @@ fn counted<R: Threads, L: Ledger>(
     requires parts { blank.parts ≡ L.parts }
     requires some { 0 < blank.parts }
     requires workers { (1 ≤ workers) × (workers ≤ 64) }
-    ensures overlap { IfOk result (HoldsOverlap (λ list pieces. list.count ≡ later_count pieces) mesh.now mesh.now) }
+    ensures overlap { IfOk result (HoldsOverlap (λ list pieces.
+        list.count ≡ later_count pieces) mesh.now mesh.now) }
     ensures refusal { IfErr result (IsRefusalOf mesh.now mesh.now) }
     ensures past { (n : ℕ) → IsPairCount mesh.now mesh.now n → 8388608 < n → IsErr result }
-    ensures within { (n m : ℕ) → IsPairCount mesh.now mesh.now n → n ≤ 8388608 → result ≢ Err (RunFault.TooManyPieces m) }
+    ensures within { (n m : ℕ) → IsPairCount mesh.now mesh.now n → n ≤ 8388608
+        → result ≢ Err (RunFault.TooManyPieces m) }
 {
     let mut steps = Steps::<L>::new(blank);
     overlap_list(rt, alloc, mesh, mesh, workers, &OpenGate, &mut steps)
@@ -104,7 +106,8 @@ pub fn overlap_count<R: Threads>(
     ensures overlaps { IfOk result (IsCountOf (DoOverlap mesh.now)) }
     ensures refusal { IfErr result (IsRefusalOf mesh.now mesh.now) }
     ensures past { (n : ℕ) → IsPairCount mesh.now mesh.now n → 8388608 < n → IsErr result }
-    ensures within { (n m : ℕ) → IsPairCount mesh.now mesh.now n → n ≤ 8388608 → result ≢ Err (RunFault.TooManyPieces m) }
+    ensures within { (n m : ℕ) → IsPairCount mesh.now mesh.now n → n ≤ 8388608
+        → result ≢ Err (RunFault.TooManyPieces m) }
 {
     match counted::<R, Brand>(rt, alloc, mesh, workers, Blank::new(1)) {
         Ok(pairs) => Ok(pairs.count),

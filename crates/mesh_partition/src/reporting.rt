@@ -42,12 +42,14 @@ pub fn report<R: Threads>(
 ) -> Result<MeshReport, RunFault>
     requires workers { (1 ≤ workers) × (workers ≤ 64) }
     ensures report { IfOk result (IsMeshReportOf mesh.now) }
-    ensures tiles { IfOk result (λ report. report.overlaps ≡ 0 → IsTrue report.covered → TilesSphere mesh.now) }
+    ensures tiles { IfOk result (λ report. report.overlaps ≡ 0 → IsTrue report.covered
+        → TilesSphere mesh.now) }
     ensures refusal { IfErr result (IsRefusalOf mesh.now mesh.now) }
     // where more pairs meet than an overlap may have, no report comes
     ensures past { (n : ℕ) → IsPairCount mesh.now mesh.now n → 8388608 < n → IsErr result }
     // and where no more do, no number comes
-    ensures within { (n m : ℕ) → IsPairCount mesh.now mesh.now n → n ≤ 8388608 → result ≢ Err (RunFault.TooManyPieces m) }
+    ensures within { (n m : ℕ) → IsPairCount mesh.now mesh.now n → n ≤ 8388608
+        → result ≢ Err (RunFault.TooManyPieces m) }
 {
     let overlaps = match overlap_count(rt, alloc, mesh, workers) {
         Ok(count) => count as u64,

@@ -10,8 +10,8 @@ use Rattle.std.proofs.lemmas.List.{ext_get_or, get_or-map}
 use Rattle.std.proofs.lemmas.List.Elements.{All-from_recursion, All-map}
 use Rattle.std.proofs.lemmas.List.FromFn.{length-map-range_with_len, get_or-map-range_with_len}
 use Rattle.map_rows.specs.declared.rows.MapRow.{MapRow}
-use Rattle.map_rows.specs.Maps.{MapParts, ComesBefore, IsSoundRow, IsSoundMap, source_of, target_of, measure_of, areas_of, sum_at}
-use Rattle.map_rows.proofs.FaceSums.{HasMeasure, area_bounds, length-sums_of, get_or-sums_of}
+use Rattle.map_rows.specs.Maps.{MapParts, ComesBefore, IsSoundRow, IsSoundMap, source_of, target_of, measure_of, areas_of, sum_at, HasMeasure}
+use Rattle.map_rows.proofs.FaceSums.{area_bounds, length-sums_of, get_or-sums_of}
 use Rattle.map_rows.proofs.AreaSums.{measures}
 use Rattle.nc_write.specs.File.{file_of}
 use Rattle.nc_format.specs.declared.NcFile.{NcFile}

@@ -7,8 +7,8 @@ use Rattle.std.proofs.lemmas.Bool.Decides.{Decides-int_eq}
 use Rattle.std.proofs.lemmas.List.{ext_get_or}
 use Rattle.std.proofs.lemmas.List.FromFn.{length-map-range_with_len, get_or-map-range_with_len}
 use Rattle.map_rows.specs.declared.rows.MapRow.{MapRow}
-use Rattle.map_rows.specs.Maps.{ComesBefore, IsSoundRow, IsSoundMap, IsFaceCount, source_of, target_of, measure_of, areas_of, sum_at}
-use Rattle.map_rows.proofs.FaceSums.{HasMeasure, area_bounds, length-sums_of, get_or-sums_of}
+use Rattle.map_rows.specs.Maps.{ComesBefore, IsSoundRow, IsSoundMap, IsFaceCount, source_of, target_of, measure_of, areas_of, sum_at, HasMeasure}
+use Rattle.map_rows.proofs.FaceSums.{area_bounds, length-sums_of, get_or-sums_of}
 use Rattle.map_rows.proofs.AreaSums.{measures}
 use Rattle.remap_files.specs.declared.vars.MapVars.{MapVars}
 use Rattle.remap_files.specs.declared.faults.FileFault.TheVariants.{Row, AreaA, AreaB}

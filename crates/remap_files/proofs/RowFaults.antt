@@ -7,8 +7,8 @@ use Rattle.std.proofs.lemmas.List.Sums.{sum_by_push}
 use Rattle.std.proofs.Math.Seq.{take-suc}
 use Rattle.remap_files.specs.declared.vars.OverlapVars.{OverlapVars}
 use Rattle.remap_files.specs.declared.faults.FileFault.TheVariants.{Row}
-use Rattle.remap_files.specs.OverlapRows.{Columns, columns_of, ring_begin, ring_len, is_good_row, first_fault, rest_fault, row_fault, unless_fault, overlap_at, overlap_of, overlap_lens, piece_at}
-use Rattle.remap_files.specs.Rows.{HasFiveLists}
+use Rattle.remap_files.specs.OverlapRows.{Columns, columns_of, ring_begin, ring_len, is_good_row, first_fault, rest_fault, row_fault, unless_fault, overlap_at, overlap_from, overlap_of, overlap_lens, piece_at}
+use Rattle.remap_files.specs.Rows.{HasLens}
 use Rattle.remap_files.proofs.FirstNot.{one_more_good as one_more, first_is, none_is, all_good}
 
 -- rows up to a number are at no fault
@@ -41,12 +41,12 @@ pub all_are_good : (v : OverlapVars) (c : Columns) → row_fault v c ≡ None �
 unfolding row_fault
 all_are_good v c none = all_good (is_good_row v.faces_a v.faces_b c) v.pieces (first_none v.pieces c _ none)
 
-pub fault_is : (v : OverlapVars) (values : List (List ℤ)) (r : ℕ) → row_fault v (columns_of values) ≡ Some r → overlap_of v values ≡ Err (Row r)
-unfolding overlap_of
-fault_is v values r h = ap (λ o. unless_fault o (overlap_at v (columns_of values))) h
+pub fault_is : (v : OverlapVars) (c : Columns) (r : ℕ) → row_fault v c ≡ Some r → overlap_from v c ≡ Err (Row r)
+unfolding overlap_from
+fault_is v c r h = ap (λ o. unless_fault o (overlap_at v c)) h
 
 pub overlap_is : (v : OverlapVars) (values : List (List ℤ)) → row_fault v (columns_of values) ≡ None → overlap_of v values ≡ Ok (overlap_at v (columns_of values))
-unfolding overlap_of
+unfolding overlap_from
 overlap_is v values h = ap (λ o. unless_fault o (overlap_at v (columns_of values))) h
 
 -- the next ring begins where this one ends
@@ -81,7 +81,12 @@ no_rows v values none lens =
 some_rows : (n : ℕ) → n ≢ 0 → (n == 0) ≡ false
 some_rows n h = grind (arith, nat_tests)
 
-five : (v : OverlapVars) (values : List (List ℤ)) → map length values ≡ v.pieces ∷ v.pieces ∷ v.pieces ∷ v.corners ∷ 3 * v.corners ∷ [] → HasFiveLists v values
+-- five lists, with the lengths of the five columns
+pub record HasFive (v : OverlapVars) (values : List (List ℤ)) : Type 0 where
+  pub count : length values ≡ 5
+  pub lens : HasLens v (columns_of values)
+
+five : (v : OverlapVars) (values : List (List ℤ)) → map length values ≡ v.pieces ∷ v.pieces ∷ v.pieces ∷ v.corners ∷ 3 * v.corners ∷ [] → HasFive v values
 five v [] h = absurd cc
 five v (a ∷ []) h = absurd cc
 five v (a ∷ b ∷ []) h = absurd cc
@@ -89,14 +94,16 @@ five v (a ∷ b ∷ c ∷ []) h = absurd cc
 five v (a ∷ b ∷ c ∷ d ∷ []) h = absurd cc
 five v (a ∷ b ∷ c ∷ d ∷ e ∷ []) h = record {
   count = refl;
-  source = ap (λ l. slice_index_or l 0 0) h;
-  target = ap (λ l. slice_index_or l 1 0) h;
-  ring_size = ap (λ l. slice_index_or l 2 0) h;
-  ring_plane = ap (λ l. slice_index_or l 3 0) h;
-  corner = ap (λ l. slice_index_or l 4 0) h;
+  lens = record {
+    source = ap (λ l. slice_index_or l 0 0) h;
+    target = ap (λ l. slice_index_or l 1 0) h;
+    ring_size = ap (λ l. slice_index_or l 2 0) h;
+    ring_plane = ap (λ l. slice_index_or l 3 0) h;
+    corner = ap (λ l. slice_index_or l 4 0) h;
+  };
 }
 five v (a ∷ b ∷ c ∷ d ∷ e ∷ f ∷ more) h = absurd cc
 
 -- with a piece there are five lists
-pub five_lists : (v : OverlapVars) (values : List (List ℤ)) → v.pieces ≢ 0 → map length values ≡ overlap_lens v → HasFiveLists v values
+pub five_lists : (v : OverlapVars) (values : List (List ℤ)) → v.pieces ≢ 0 → map length values ≡ overlap_lens v → HasFive v values
 five_lists v values some lens = five v values (lens ∙ ap (λ b. if b then [] else (v.pieces ∷ v.pieces ∷ v.pieces ∷ v.corners ∷ 3 * v.corners ∷ [])) (some_rows v.pieces some))

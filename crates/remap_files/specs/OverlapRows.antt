@@ -100,5 +100,9 @@ unless_fault None o = Ok o
 unless_fault (Some r) o = Err (Row r)
 
 -- The overlap that the numbers of the variables say, or the first row at fault.
-unfoldable pub overlap_of : OverlapVars → List (List ℤ) → Result OverlapParts FileFault
-overlap_of v values = unless_fault (row_fault v (columns_of values)) (overlap_at v (columns_of values))
+unfoldable pub overlap_from : OverlapVars → Columns → Result OverlapParts FileFault
+overlap_from v c = unless_fault (row_fault v c) (overlap_at v c)
+
+-- the same, of the numbers by the order of the variables
+abbrev pub overlap_of : OverlapVars → List (List ℤ) → Result OverlapParts FileFault
+overlap_of v values = overlap_from v (columns_of values)

@@ -1,16 +1,15 @@
 -- What the calls on rows rely on.
-use Rattle.std.specs.Prelude.{◌≡◌, ℕ, ◌+◌, ◌*◌, ◌≤◌, ℤ, List, [], length, All, unsigned_abs, slice_index_or}
+use Rattle.std.specs.Prelude.{◌≡◌, ℕ, ◌+◌, ◌*◌, ◌≤◌, ℤ, List, length, All, unsigned_abs}
 use Rattle.remap_files.specs.declared.vars.OverlapVars.{OverlapVars}
-use Rattle.remap_files.specs.OverlapRows.{ring_begin, ring_len, ring_at}
+use Rattle.remap_files.specs.OverlapRows.{Columns, ring_begin, ring_len, ring_at}
 
--- the five lists of numbers, where there is a piece
-pub record HasFiveLists (v : OverlapVars) (values : List (List ℤ)) : Type 0 where
-  pub count : length values ≡ 5
-  pub source : length (slice_index_or values 0 []) ≡ v.pieces
-  pub target : length (slice_index_or values 1 []) ≡ v.pieces
-  pub ring_size : length (slice_index_or values 2 []) ≡ v.pieces
-  pub ring_plane : length (slice_index_or values 3 []) ≡ v.corners
-  pub corner : length (slice_index_or values 4 []) ≡ 3 * v.corners
+-- how many numbers each of the five columns has, where there is a piece
+pub record HasLens (v : OverlapVars) (c : Columns) : Type 0 where
+  pub source : length c.source ≡ v.pieces
+  pub target : length c.target ≡ v.pieces
+  pub ring_size : length c.ring_size ≡ v.pieces
+  pub ring_plane : length c.ring_plane ≡ v.corners
+  pub corner : length c.corner ≡ 3 * v.corners
 
 -- the ring of a row that is at no fault
 pub record IsGoodRing (ring_size ring_plane : List ℤ) (r : ℕ) : Type 0 where

@@ -3,10 +3,10 @@ ghost use Rattle.std.specs.Prelude.{◌≡◌, ◌≤◌, ◌<◌, ◌+◌, ◌*
 ghost use Rattle.std.specs.List.{list_all, range_with_len};
 ghost use Rattle.exodus_mesh.specs.MeshValues.{rows_of};
 ghost use Rattle.clip.specs.Overlaps.{IsFaceCount};
-ghost use Rattle.remap_files.specs.Rows.{HasFiveLists, IsGoodRing};
+ghost use Rattle.remap_files.specs.Rows.{HasLens, IsGoodRing};
 ghost use Rattle.remap_files.specs.Answers.{Refuses, IsOfRows};
 ghost use Rattle.remap_files.specs.OverlapNames.{is_within};
-ghost use Rattle.remap_files.specs.OverlapRows.{columns_of, exceeds, has_good_faces, ring_begin, ring_len, has_good_ring, is_good_row, piece_of, piece_at, row_fault, overlap_of, overlap_lens};
+ghost use Rattle.remap_files.specs.OverlapRows.{columns_of, exceeds, has_good_faces, ring_begin, ring_len, has_good_ring, is_good_row, piece_of, piece_at, row_fault, overlap_from, overlap_of, overlap_lens};
 
 use crate::finding::is_within;
 use crate::{FileFault, OverlapVars};
@@ -14,26 +14,53 @@ use arrayvec::ArrayVec;
 use clip::{Corners, Overlap, Piece, Pieces, Ring};
 use smallvec::SmallVec;
 use std::alloc::{AllocError, Global};
+use std::marker::Model;
 use vec_exact::Ints;
 
-// The places of the five variables in the list of their numbers.
-const SOURCE: usize = 0;
+// The numbers of the five variables, row by row.
+#[derive(Drop)]
+struct OverlapRows<'a> {
+    source: &'a [i32],
+    target: &'a [i32],
+    ring_size: &'a [i32],
+    ring_plane: &'a [i32],
+    corner: &'a [i32],
+}
 
-const TARGET: usize = 1;
+impl<'a> Model for OverlapRows<'a> {
+    ghost use Rattle.remap_files.specs.OverlapRows.{Columns};
 
-const RING_SIZE: usize = 2;
+    ghost Value = { Columns };
 
-const RING_PLANE: usize = 3;
+    ghost view = { λ r. record {
+      source = r.source.now;
+      target = r.target.now;
+      ring_size = r.ring_size.now;
+      ring_plane = r.ring_plane.now;
+      corner = r.corner.now;
+    } };
+}
 
-const CORNER: usize = 4;
-
-// The numbers of one of the five variables, by its place among them.
-fn column<'a>(values: &'a [Ints], k: usize) -> &'a [i32]
+// The numbers of variable k of the five, from 0.
+fn numbers<'a>(values: &'a [Ints], k: usize) -> &'a [i32]
     requires { k < length values.now }
     ensures { result.now ≡ slice_index_or values.now k [] }
 {
     let list = &values[k];
     &list.items
+}
+
+fn rows_of<'a>(values: &'a [Ints]) -> OverlapRows<'a>
+    requires { length values.now ≡ 5 }
+    ensures { result ≡ columns_of values.now }
+{
+    OverlapRows {
+        source: numbers(values, 0),
+        target: numbers(values, 1),
+        ring_size: numbers(values, 2),
+        ring_plane: numbers(values, 3),
+        corner: numbers(values, 4),
+    }
 }
 
 fn exceeds(before: (i32, i32), pair: (i32, i32)) -> bool
@@ -109,34 +136,38 @@ fn make_corners(alloc: Global, count: usize, numbers: &[i32]) -> Result<Corners,
 }
 
 // Whether row r, from 0, whose ring begins at a place, is at no fault.
-fn is_good_row(vars: &OverlapVars, values: &[Ints], r: usize, begin: usize) -> bool
-    requires lists { HasFiveLists vars.now values.now }
+fn is_good_row(vars: &OverlapVars, rows: &OverlapRows, r: usize, begin: usize) -> bool
+    requires lens { HasLens vars.now rows.now }
     requires row { r < vars.now.pieces }
-    requires begin { begin ≡ ring_begin (columns_of values.now).ring_size r }
-    requires inside { begin ≤ length (columns_of values.now).ring_plane }
-    ensures { result ≡ is_good_row vars.now.faces_a vars.now.faces_b (columns_of values.now) r }
+    requires begin { begin ≡ ring_begin rows.now.ring_size r }
+    requires inside { begin ≤ length rows.now.ring_plane }
+    ensures { result ≡ is_good_row vars.now.faces_a vars.now.faces_b rows.now r }
 {
-    has_good_faces(
-        vars.faces_a,
-        vars.faces_b,
-        column(values, SOURCE),
-        column(values, TARGET),
-        r,
-    ) && has_good_ring(
-        column(values, RING_SIZE),
-        column(values, RING_PLANE),
-        r,
-        begin,
-    )
+    has_good_faces(vars.faces_a, vars.faces_b, rows.source, rows.target, r)
+        && has_good_ring(rows.ring_size, rows.ring_plane, r, begin)
+}
+
+// The size of row r in the column of ring sizes.
+fn size_at(ring_size: &[i32], r: usize) -> usize
+    requires { r < length ring_size.now }
+    ensures { result ≡ ring_len ring_size.now r }
+{
+    ring_size[r].unsigned_abs() as usize
 }
 
 // The length of the ring of row r.
-fn ring_len(values: &[Ints], r: usize) -> usize
-    requires lists { 2 < length values.now }
-    requires row { r < length (columns_of values.now).ring_size }
-    ensures { result ≡ ring_len (columns_of values.now).ring_size r }
+fn ring_len(rows: &OverlapRows, r: usize) -> usize
+    requires { r < length rows.now.ring_size }
+    ensures { result ≡ ring_len rows.now.ring_size r }
 {
-    column(values, RING_SIZE)[r].unsigned_abs() as usize
+    size_at(rows.ring_size, r)
+}
+
+// How many numbers all rings have together.
+fn plane_count(rows: &OverlapRows) -> usize
+    ensures { result ≡ length rows.now.ring_plane }
+{
+    rows.ring_plane.len()
 }
 
 // The piece of row r, whose ring begins at a place.
@@ -144,51 +175,54 @@ fn ring_len(values: &[Ints], r: usize) -> usize
 fn make_piece(
     alloc: Global,
     vars: &OverlapVars,
-    values: &[Ints],
+    rows: &OverlapRows,
     r: usize,
     begin: usize,
 ) -> Result<Piece, AllocError>
-    requires lists { HasFiveLists vars.now values.now }
+    requires lens { HasLens vars.now rows.now }
     requires row { r < vars.now.pieces }
-    requires begin { begin ≡ ring_begin (columns_of values.now).ring_size r }
-    requires ring { IsGoodRing (columns_of values.now).ring_size
-        (columns_of values.now).ring_plane r }
-    ensures { IfOk result (λ p. p ≡ piece_at (columns_of values.now) r) }
+    requires begin { begin ≡ ring_begin rows.now.ring_size r }
+    requires ring { IsGoodRing rows.now.ring_size rows.now.ring_plane r }
+    ensures { IfOk result (λ p. p ≡ piece_at rows.now r) }
 {
-    let len = ring_len(values, r);
-    let (_, planes) = column(values, RING_PLANE).split_at(begin);
+    let len = ring_len(rows, r);
+    let (_, planes) = rows.ring_plane.split_at(begin);
     let (ring, _) = planes.split_at(len);
-    let (_, corners) = column(values, CORNER).split_at(3 * begin);
+    let (_, corners) = rows.corner.split_at(3 * begin);
     Ok(Piece {
-        a: column(values, SOURCE)[r].unsigned_abs(),
-        b: column(values, TARGET)[r].unsigned_abs(),
+        a: rows.source[r].unsigned_abs(),
+        b: rows.target[r].unsigned_abs(),
         ring: make_ring(ring),
         corners: make_corners(alloc, len, corners)?,
     })
 }
 
 // The pieces of all rows, or the first row at fault.
-fn make_pieces(alloc: Global, vars: &OverlapVars, values: &[Ints]) -> Result<Vec<Piece>, FileFault>
-    requires lists { HasFiveLists vars.now values.now }
+fn make_pieces(
+    alloc: Global,
+    vars: &OverlapVars,
+    rows: &OverlapRows,
+) -> Result<Vec<Piece>, FileFault>
+    requires lens { HasLens vars.now rows.now }
     requires count { vars.now.pieces ≤ 8388608 }
-    ensures good { IfOk result (λ _. row_fault vars.now (columns_of values.now) ≡ None) }
-    ensures pieces { IfOk result
-        (λ pieces. pieces.items ≡ map (piece_at (columns_of values.now))
-        (range_with_len 0 vars.now.pieces)) }
-    ensures fault { IfErr result (λ fault. Refuses fault (overlap_of vars.now values.now)) }
+    ensures good { IfOk result (λ _. row_fault vars.now rows.now ≡ None) }
+    ensures pieces { IfOk result (λ pieces.
+        pieces.items ≡ map (piece_at rows.now) (range_with_len 0 vars.now.pieces)) }
+    ensures fault { IfErr result (λ fault. Refuses fault (overlap_from vars.now rows.now)) }
     ensures of_rows { IfErr result IsOfRows }
 {
     let mut pieces = Vec::with_capacity(alloc, vars.pieces as usize)?;
     let mut begin = 0;
     for number in 0..vars.pieces {
         let r = number as usize;
-        if !is_good_row(vars, values, r, begin) {
+        if !is_good_row(vars, rows, r, begin) {
             return Err(FileFault::Row(number + 1));
         }
-        pieces.push(make_piece(alloc, vars, values, r, begin)?)?;
-        begin += ring_len(values, r);
+        pieces.push(make_piece(alloc, vars, rows, r, begin)?)?;
+        begin += ring_len(rows, r);
     }
-    if begin < column(values, RING_PLANE).len() {
+    let planes = plane_count(rows);
+    if begin < planes {
         return Err(FileFault::Row(vars.pieces));
     }
     Ok(pieces)
@@ -228,7 +262,7 @@ pub fn overlap_from(
             },
         });
     }
-    let pieces = make_pieces(alloc, vars, values)?;
+    let pieces = make_pieces(alloc, vars, &rows_of(values))?;
     Ok(Overlap {
         faces_a: vars.faces_a,
         faces_b: vars.faces_b,

@@ -79,7 +79,8 @@ impl Files for SteadyFiles {
         ensures absent { OnErr result (self.new ≡
             record self.old { misses = held_sum self.old.misses 1 }) }
         ensures only_absent { IsOkUnless result FileErr.Absent }
-        ensures counts { NoCountFalls (seen_of_steady_files self.old) (seen_of_steady_files self.new) }
+        ensures counts { NoCountFalls
+            (seen_of_steady_files self.old) (seen_of_steady_files self.new) }
     {
         match store::bytes_of(&self.files, name) {
             Some(bytes) => Ok(bytes.len() as u64),
@@ -104,7 +105,8 @@ impl Files for SteadyFiles {
               misses = held_sum self.old.misses 1;
             }) }
         ensures only_absent { IsOkUnless result FileErr.Absent }
-        ensures counts { NoCountFalls (seen_of_steady_files self.old) (seen_of_steady_files self.new) }
+        ensures counts { NoCountFalls
+            (seen_of_steady_files self.old) (seen_of_steady_files self.new) }
     {
         self.taken = self.taken.saturating_add(buf.len() as u64);
         match store::bytes_of(&self.files, name) {
@@ -178,7 +180,8 @@ impl Sink for SteadySink {
         ensures err { OnErr result (self.new ≡
             record self.old { refusals = held_sum self.old.refusals 1 }) }
         ensures never_failed { IsOkUnless result PutErr.NoMemory }
-        ensures counts { NoPutCountFalls (seen_of_steady_sink self.old) (seen_of_steady_sink self.new) }
+        ensures counts { NoPutCountFalls
+            (seen_of_steady_sink self.old) (seen_of_steady_sink self.new) }
     {
         match self.held.extend_from_slice(bytes) {
             Ok(()) => Ok(()),

@@ -1,12 +1,13 @@
 -- The head of a file: its header, and the first bytes that were read for it. Source: our own.
 use Rattle.std.specs.Prelude.{◌≡◌, ◌⊎◌, ℕ, ◌*◌, ◌≤◌, ◌<◌, max, List, length, take, Some}
+use Rattle.vec_exact.specs.declared.limits.TheConstants.{MAX_FILE_LEN}
 use Rattle.nc_format.specs.declared.fault.NcFault.TheVariants.{Truncated}
 use Rattle.nc_format.specs.Header.{IsHeader, first_fault}
 use Rattle.remap_load.specs.declared.Head.{Head}
 
 -- the first bytes begin with the header, in a file of at most 2,147,483,647 bytes
 pub record IsHead (head : Head) : Type 0 where
-  pub short : head.len ≤ 2147483647
+  pub short : head.len ≤ MAX_FILE_LEN
   pub within : length head.prefix ≤ head.len
   pub header : IsHeader head.prefix head.len head.file
 

@@ -1,6 +1,7 @@
 -- What a file of some kind holds, or why it holds none. A kind of file is given by what its header and its bytes hold and by the
 -- first fault that they have otherwise. Source: our own; the order of refusals is that of the command line.
 use Rattle.std.specs.Prelude.{◌≡◌, ◌≢◌, ◌⊎◌, ◌<◌, ◌≤◌, ◌+◌, ℕ, List, length, Option, Some, None, Result, Ok, Err, IsSomeAnd, ⊤}
+use Rattle.vec_exact.specs.declared.limits.TheConstants.{MAX_FILE_LEN}
 use Rattle.remap_io.specs.Folder.{Folder, file_at, OnFile}
 use Rattle.remap_io.specs.Outside.{FilesSeen}
 use Rattle.nc_format.specs.declared.NcFile.{NcFile}
@@ -27,7 +28,7 @@ pub record FileKind (A C : Type 0) : Type 1 where
 
 -- bytes of a file that isn't too long, with their header
 pub record IsNetcdf (bytes : List ℕ) (file : NcFile) : Type 0 where
-  pub short : length bytes ≤ 2147483647
+  pub short : length bytes ≤ MAX_FILE_LEN
   pub header : IsHeader bytes (length bytes) file
 
 -- the bytes hold this
@@ -46,8 +47,8 @@ pub record HasFault {A C : Type 0} (kind : FileKind A C) (bytes : List ℕ) (fau
 abbrev pub IsRefusedBytes : {A C : Type 0} → FileKind A C → List ℕ → FileRefusal C → Type 0
 IsRefusedBytes kind bytes (Load Absent) = ⊥
 IsRefusedBytes kind bytes (Load Failed) = ⊥
-IsRefusedBytes kind bytes (Load (TooLong n)) = (n ≡ length bytes) × (2147483647 < n)
-IsRefusedBytes kind bytes (Load (Format fault)) = (length bytes ≤ 2147483647) × (first_fault bytes (length bytes) ≡ Some fault)
+IsRefusedBytes kind bytes (Load (TooLong n)) = (n ≡ length bytes) × (MAX_FILE_LEN < n)
+IsRefusedBytes kind bytes (Load (Format fault)) = (length bytes ≤ MAX_FILE_LEN) × (first_fault bytes (length bytes) ≡ Some fault)
 IsRefusedBytes kind bytes (Load NoMemory) = ⊥
 IsRefusedBytes kind bytes (Content fault) = HasFault kind bytes fault
 
@@ -96,7 +97,7 @@ file_cost kind m name = bytes_cost kind.needed (file_at m name)
 abbrev pub IsToldRefusal : {A C : Type 0} → FileKind A C → FileRefusal C → Type 0
 IsToldRefusal kind (Load Absent) = ⊤
 IsToldRefusal kind (Load Failed) = ⊤
-IsToldRefusal kind (Load (TooLong n)) = 2147483647 < n
+IsToldRefusal kind (Load (TooLong n)) = MAX_FILE_LEN < n
 IsToldRefusal kind (Load (Format fault)) = fault ≢ WantOfMemory
 IsToldRefusal kind (Load NoMemory) = ⊤
 IsToldRefusal kind (Content fault) = kind.IsFault fault

@@ -1,5 +1,6 @@
 -- Which faults a call answers, and what it leaves. Source: our own.
 use Rattle.std.specs.Prelude.{◌≡◌, ◌≢◌, ◌⊎◌, ◌+◌, ◌<◌, ◌≤◌, ℕ, List, length, Some, None, Result, Err, IsOkAnd, ⊤}
+use Rattle.vec_exact.specs.declared.limits.TheConstants.{MAX_FILE_LEN}
 use Rattle.remap_io.specs.Causes.{Rose}
 use Rattle.remap_io.specs.Folder.{OnFile, OnNoFile}
 use Rattle.remap_io.specs.Outside.{FilesSeen, OnlyReads}
@@ -20,9 +21,9 @@ pub record ReadsAtMost (old new : FilesSeen) (cost : ℕ) : Type 0 where
 abbrev pub IsLoadFault : FilesSeen → FilesSeen → List ℕ → LoadFault → Type 0
 IsLoadFault old new name Absent = Rose old.misses new.misses × OnNoFile old.folder name
 IsLoadFault old new name Failed = Rose old.faults new.faults
-IsLoadFault old new name (TooLong n) = (2147483647 < n) × OnFile old.folder name (λ bytes. n ≡ length bytes)
+IsLoadFault old new name (TooLong n) = (MAX_FILE_LEN < n) × OnFile old.folder name (λ bytes. n ≡ length bytes)
 IsLoadFault old new name (Format fault) =
-    (fault ≢ WantOfMemory) × OnFile old.folder name (λ bytes. (length bytes ≤ 2147483647) × (first_fault bytes (length bytes) ≡ Some fault))
+    (fault ≢ WantOfMemory) × OnFile old.folder name (λ bytes. (length bytes ≤ MAX_FILE_LEN) × (first_fault bytes (length bytes) ≡ Some fault))
 IsLoadFault old new name NoMemory = ⊤
 
 -- Why values weren't loaded of a file whose header was: there is no miss where the folder is told.

@@ -1,5 +1,6 @@
 // The header of a file, from as few of its first bytes as have it.
 ghost use Rattle.std.specs.Prelude.{◌≡◌, ◌≤◌, ◌<◌, ◌+◌, ℕ, List, length, min, IfSome, IfOk, IfErr, Ok, None, Some};
+ghost use Rattle.vec_exact.specs.declared.limits.TheConstants.{MAX_FILE_LEN};
 ghost use Rattle.remap_io.specs.Folder.{OnFile, Holds, Lacks};
 ghost use Rattle.remap_io.specs.Outside.{OnlyReads};
 ghost use Rattle.nc_format.specs.declared.fault.NcFault.{NcFault};
@@ -21,7 +22,7 @@ const FIRST: u64 = 65_536;
 // them are wanted.
 fn header_in(alloc: Global, front: &[u8], len: u64) -> Result<Option<NcFile>, LoadFault>
     requires within { length front.now ≤ len }
-    requires short { len ≤ 2147483647 }
+    requires short { len ≤ MAX_FILE_LEN }
     ensures header { IfOk result (λ found. IfSome found (λ file. IsHeader front.now len file)) }
     ensures cut { result ≡ Ok None → IsCut front.now len }
     ensures fault { IfErr result (IsOfFront front.now len) }
@@ -39,8 +40,8 @@ fn header_in(alloc: Global, front: &[u8], len: u64) -> Result<Option<NcFile>, Lo
     }
 }
 
-// The head of a file of `len` bytes, of which `front` are the first ones. They grow to twice as many
-// as long as they end inside the header.
+// The head of a file of `len` bytes, of which `front` are the first ones. They grow to twice as
+// many as long as they end inside the header.
 fn load_from<F: Files>(
     alloc: Global,
     files: &mut F,
@@ -48,7 +49,7 @@ fn load_from<F: Files>(
     len: u64,
     front: Vec<u8>,
 ) -> Result<Head, LoadFault>
-    requires short { len ≤ 2147483647 }
+    requires short { len ≤ MAX_FILE_LEN }
     requires first { length front.items ≡ min len 65536 }
     requires front { OnFile (F.seen files.old).folder name.now (IsFront front.items len) }
     ensures head { IfOk result IsHead }
@@ -93,8 +94,8 @@ fn load_head<F: Files>(alloc: Global, files: &mut F, name: &str) -> Result<Head,
 ///
 /// The first 65,536 bytes are read, or all where there are fewer. As long as they end inside the
 /// header, twice as many are taken, or all; only the new ones are read. `Absent` says that there is
-/// no such file, `TooLong(n)` that it has n bytes, more than 2,147,483,647, and `Format(x)` that x is
-/// the first fault of its header. `Failed` and `NoMemory` may come in place of any answer.
+/// no such file, `TooLong(n)` that it has n bytes, more than 2,147,483,647, and `Format(x)` that x
+/// is the first fault of its header. `Failed` and `NoMemory` may come in place of any answer.
 pub fn load_header<F: Files>(alloc: Global, files: &mut F, name: &str) -> Result<Head, LoadFault>
     // What is answered is a head, and that of the file, where the folder is told.
     ensures head { IfOk result IsHead }
@@ -109,12 +110,12 @@ pub fn load_header<F: Files>(alloc: Global, files: &mut F, name: &str) -> Result
     ensures lacking { Lacks (F.seen files.old).folder name.now
         → Refuses LoadFault.Absent result }
     ensures long { (bytes : List ℕ) → Holds (F.seen files.old).folder name.now bytes
-        → 2147483647 < length bytes → Refuses (LoadFault.TooLong (length bytes)) result }
+        → MAX_FILE_LEN < length bytes → Refuses (LoadFault.TooLong (length bytes)) result }
     ensures faulty { (bytes : List ℕ) (e : NcFault)
-        → Holds (F.seen files.old).folder name.now bytes → length bytes ≤ 2147483647
+        → Holds (F.seen files.old).folder name.now bytes → length bytes ≤ MAX_FILE_LEN
         → first_fault bytes (length bytes) ≡ Some e → Refuses (LoadFault.Format e) result }
     ensures found { (bytes : List ℕ) (f : NcFile)
-        → Holds (F.seen files.old).folder name.now bytes → length bytes ≤ 2147483647
+        → Holds (F.seen files.old).folder name.now bytes → length bytes ≤ MAX_FILE_LEN
         → IsHeader bytes (length bytes) f → Finds f result }
 
     // No file changes, and no count falls. What was asked for is at most 65,536 bytes, or twice the

@@ -1,17 +1,16 @@
 // Calls of `Files` that read.
 ghost use Rattle.std.specs.Prelude.{◌≡◌, ◌≤◌, ◌+◌, ◌++◌, length, take, slice_range, IfOk, IfErr, OnOk};
+ghost use Rattle.vec_exact.specs.declared.limits.TheConstants.{MAX_FILE_LEN};
 ghost use Rattle.remap_io.specs.Folder.{OnFile};
 ghost use Rattle.remap_load.specs.Loading.{IsLoadFault, IsReadFault, ReadsAtMost};
 
 use crate::LoadFault;
 use remap_io::{FileErr, Files};
-
-// The greatest length of a file.
-const LONGEST: u64 = 2_147_483_647;
+use vec_exact::MAX_FILE_LEN;
 
 /// The length of a file that isn't too long.
 pub fn length_of<F: Files>(files: &mut F, name: &str) -> Result<u64, LoadFault>
-    ensures short { IfOk result (λ len. len ≤ 2147483647) }
+    ensures short { IfOk result (λ len. len ≤ MAX_FILE_LEN) }
     ensures len { IfOk result (λ len.
         OnFile (F.seen files.old).folder name.now (λ bytes. len ≡ length bytes)) }
     ensures fault { IfErr result (IsLoadFault (F.seen files.old) (F.seen files.new) name.now) }
@@ -19,7 +18,7 @@ pub fn length_of<F: Files>(files: &mut F, name: &str) -> Result<u64, LoadFault>
 {
     match files.size(name) {
         Ok(len) => {
-            if len > LONGEST {
+            if len > MAX_FILE_LEN {
                 return Err(LoadFault::TooLong(len));
             }
             Ok(len)

@@ -1,6 +1,7 @@
 // The values of variables of a file whose head was loaded.
 ghost use Rattle.std.specs.Prelude.{◌≡◌, ◌≤◌, ◌+◌, ◌*◌, ◌++◌, ◌∷◌, [], ℕ, true, length, map, slice_range, slice_get, Some, IfOk, IfErr, OnOk, IsOkUnless, IsSome, IsSomeAnd, All, nat_le, if◌then◌else◌};
 ghost use Rattle.std.specs.List.{sum_by};
+ghost use Rattle.vec_exact.specs.declared.limits.TheConstants.{MAX_FILE_LEN};
 ghost use Rattle.remap_io.specs.Folder.{OnFile};
 ghost use Rattle.nc_format.specs.declared.NcVar.{NcVar};
 ghost use Rattle.nc_format.specs.Numbers.{is_int, is_long, numbers_in, gathered, HasPieces, HasWholePieces};
@@ -34,7 +35,7 @@ fn put_piece<F: Files>(
     part: u64,
     bytes: &mut Vec<u8>,
 ) -> Result<(), LoadFault>
-    requires short { head.now.len ≤ 2147483647 }
+    requires short { head.now.len ≤ MAX_FILE_LEN }
     requires inside { at + part ≤ head.now.len }
     requires of_file { OnFile (F.seen files.old).folder name.now (IsHeadOfBytes head.now) }
     ensures piece { OnOk result (OnFile (F.seen files.old).folder name.now
@@ -62,7 +63,7 @@ fn piece_bytes<F: Files>(
     head: &Head,
     var: &NcVar,
 ) -> Result<Vec<u8>, LoadFault>
-    requires short { head.now.len ≤ 2147483647 }
+    requires short { head.now.len ≤ MAX_FILE_LEN }
     requires pieces { HasPieces head.now.len var.now }
     requires of_file { OnFile (F.seen files.old).folder name.now (IsHeadOfBytes head.now) }
     ensures pieces { IfOk result (λ bytes. OnFile (F.seen files.old).folder name.now
@@ -89,7 +90,7 @@ fn values_of<N: Numbers, F: Files>(
     head: &Head,
     var: &NcVar,
 ) -> Result<N, LoadFault>
-    requires short { head.now.len ≤ 2147483647 }
+    requires short { head.now.len ≤ MAX_FILE_LEN }
     requires pieces { HasWholePieces head.now.len var.now }
     requires kind { N.keeps var.now.kind ≡ true }
     requires of_file { OnFile (F.seen files.old).folder name.now (IsHeadOfBytes head.now) }

@@ -146,7 +146,7 @@ fn an_empty_file_is_read(rt: HostRuntime) -> Result<(), Fail> {
     assert_eq!(rt; row.go(&rt, rt.alloc(), WORDS)?, Status::Format);
     assert_eq!(rt;
         row.err.bytes(),
-        b"tempest: a.g: truncated at 0\n".as_slice()
+        b"tempest: a.g: not netCDF\n".as_slice()
     );
     Ok(())
 }

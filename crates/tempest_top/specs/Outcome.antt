@@ -1,5 +1,6 @@
 -- What a command comes to, apart from faults of devices and want of memory.
 use Rattle.std.specs.Prelude.{◌≡◌, ◌⊎◌, ℕ, ◌<◌, ◌≤◌, List, [], length, Bool, true, false, codes, Option, Some, None, option_map}
+use Rattle.vec_exact.specs.declared.limits.TheConstants.{MAX_FILE_LEN, MAX_PIECES}
 use Rattle.vec_exact.specs.declared.RawMesh.{RawMesh}
 use Rattle.remap_io.specs.Folder.{Folder, with_file}
 use Rattle.nc_write.specs.File.{file_of}
@@ -80,14 +81,14 @@ AfterFile {A = A} {C = C} words (Some m) file next o =
 -- A document is written to a file, unless that would have more than 2,147,483,647 bytes.
 abbrev pub IsOutcomeOfDocument : NcDoc → List ℕ → List ℕ → Option Folder → Outcome → Type 0
 IsOutcomeOfDocument doc text file m o =
-    ((2147483647 < length (file_of doc)) × (o ≡ refusal Limit (length_text file (length (file_of doc))) m))
-    ⊎ ((length (file_of doc) ≤ 2147483647) × (o ≡ written (record { name = file; bytes = file_of doc }) text m))
+    ((MAX_FILE_LEN < length (file_of doc)) × (o ≡ refusal Limit (length_text file (length (file_of doc))) m))
+    ⊎ ((length (file_of doc) ≤ MAX_FILE_LEN) × (o ≡ written (record { name = file; bytes = file_of doc }) text m))
 
 -- The overlap of two meshes is written to a file, unless more than 8,388,608 pairs of faces meet.
 abbrev pub IsOutcomeOfPair : RawMesh → RawMesh → List ℕ → Option Folder → Outcome → Type 0
 IsOutcomeOfPair source target file m o =
-    ((n : ℕ) × IsPairCount source target n × (8388608 < n) × (o ≡ refusal Limit (too_many_pieces_text n) m))
-    ⊎ ((overlap : OverlapParts) × IsOverlapOf source target overlap × (length overlap.pieces ≤ 8388608) × IsOutcomeOfDocument (overlap_document overlap) (pieces_text (length overlap.pieces)) file m o)
+    ((n : ℕ) × IsPairCount source target n × (MAX_PIECES < n) × (o ≡ refusal Limit (too_many_pieces_text n) m))
+    ⊎ ((overlap : OverlapParts) × IsOverlapOf source target overlap × (length overlap.pieces ≤ MAX_PIECES) × IsOutcomeOfDocument (overlap_document overlap) (pieces_text (length overlap.pieces)) file m o)
 
 -- What the source mesh covers of the target mesh is told.
 abbrev pub IsOutcomeOfCoverage : RawMesh → RawMesh → Option Folder → Outcome → Type 0

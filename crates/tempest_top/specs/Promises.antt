@@ -1,5 +1,6 @@
 -- What the program promises of a call, against the outcome of its words. In each word the last argument is the status of the call.
 use Rattle.std.specs.Prelude.{◌≡◌, ◌≢◌, ◌⊎◌, ◌+◌, ◌<◌, ◌≤◌, ℕ, List, [], ◌++◌, codes, Bool, true, Option, Some, None, IfSome, ⊤}
+use Rattle.vec_exact.specs.declared.limits.TheConstants.{MAX_FILE_LEN, MAX_PIECES}
 use Rattle.remap_io.specs.Causes.{Rose}
 use Rattle.remap_io.specs.Folder.{Folder, IsPartlyReplaced}
 use Rattle.remap_io.specs.Held.{Gains, GainsPart}
@@ -65,11 +66,11 @@ IsMadeText text status = (status ≡ Mesh) × ((fault : MeshFault) × (fault ≢
 
 -- a file would have more than 2,147,483,647 bytes
 abbrev pub IsLengthText : List ℕ → List ℕ → Status → Type 0
-IsLengthText file text status = (status ≡ Limit) × ((n : ℕ) × (2147483647 < n) × (text ≡ length_text file n))
+IsLengthText file text status = (status ≡ Limit) × ((n : ℕ) × (MAX_FILE_LEN < n) × (text ≡ length_text file n))
 
 -- more than 8,388,608 pairs meet
 abbrev pub IsPiecesText : List ℕ → Status → Type 0
-IsPiecesText text status = (status ≡ Limit) × ((n : ℕ) × (8388608 < n) × (text ≡ too_many_pieces_text n))
+IsPiecesText text status = (status ≡ Limit) × ((n : ℕ) × (MAX_PIECES < n) × (text ≡ too_many_pieces_text n))
 
 abbrev pub IsOverlapText : List ℕ → List ℕ → Status → Type 0
 IsOverlapText file text status = IsPiecesText text status ⊎ IsLengthText file text status

@@ -28,7 +28,8 @@ fn put_numbered<E: Sink>(err: &mut E, file: &str, text: &str, n: u64)
 
 // Puts the line that a face of the mesh of this file isn't convex.
 fn put_not_convex<E: Sink>(err: &mut E, file: &str, face: u32)
-    ensures { PutsText (E.seen err.old) (E.seen err.new) (file.now ++ codes ": face " ++ decimal face ++ codes " not convex") }
+    ensures { PutsText (E.seen err.old) (E.seen err.new)
+        (file.now ++ codes ": face " ++ decimal face ++ codes " not convex") }
 {
     let mut digits = Buffer::new();
     put_line(err, &[file, ": face ", digits.format(face), " not convex"]);
@@ -36,7 +37,8 @@ fn put_not_convex<E: Sink>(err: &mut E, file: &str, face: u32)
 
 // Puts the line that the data of a variable of this file lies outside.
 fn put_data_outside<E: Sink>(err: &mut E, file: &str, variable: u32)
-    ensures { PutsText (E.seen err.old) (E.seen err.new) (file.now ++ codes ": data of variable " ++ decimal variable ++ codes " outside file") }
+    ensures { PutsText (E.seen err.old) (E.seen err.new)
+        (file.now ++ codes ": data of variable " ++ decimal variable ++ codes " outside file") }
 {
     let mut digits = Buffer::new();
     put_line(
@@ -104,7 +106,8 @@ fn front_of(id: NameId, var: &str) -> &str
 // The number of the block whose variable has the name that stands for this, if it is one of a block.
 #[tactic(auto, unfolding(exodus_mesh::specs::Names::name_of))]
 fn block_of(id: NameId) -> Option<u32>
-    ensures { MatchOption result (number_behind id ≡ []) (λ n. (var : List ℕ) → name_of var id ≡ codes "connect" ++ decimal n) }
+    ensures { MatchOption result (number_behind id ≡ [])
+        (λ n. (var : List ℕ) → name_of var id ≡ codes "connect" ++ decimal n) }
 {
     match id {
         NameId::Connect(n) => Some(n),
@@ -114,7 +117,8 @@ fn block_of(id: NameId) -> Option<u32>
 
 // Puts the line of a file, a text and the name of a block's variable.
 fn put_block_name<E: Sink>(err: &mut E, file: &str, text: &str, block: u32)
-    ensures { PutsText (E.seen err.old) (E.seen err.new) (file.now ++ text.now ++ (codes "connect" ++ decimal block)) }
+    ensures { PutsText (E.seen err.old) (E.seen err.new)
+        (file.now ++ text.now ++ (codes "connect" ++ decimal block)) }
 {
     let mut digits = Buffer::new();
     put_line(err, &[file, text, "connect", digits.format(block)]);
@@ -122,7 +126,8 @@ fn put_block_name<E: Sink>(err: &mut E, file: &str, text: &str, block: u32)
 
 // Puts the line of a file, a text and a name.
 fn put_name<E: Sink>(err: &mut E, file: &str, text: &str, var: &str, id: NameId)
-    ensures { PutsText (E.seen err.old) (E.seen err.new) (file.now ++ text.now ++ name_of var.now id) }
+    ensures { PutsText (E.seen err.old) (E.seen err.new)
+        (file.now ++ text.now ++ name_of var.now id) }
 {
     let front = front_of(id, var);
     match block_of(id) {

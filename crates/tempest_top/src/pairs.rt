@@ -1,5 +1,6 @@
 // The command that finds the pieces of two meshes.
 ghost use Rattle.std.specs.Prelude.{◌≡◌, ◌≤◌, ◌<◌, ◌+◌, [], IfOk, IfErr, IfSome, OnOk, Some, length, string_bytes};
+ghost use Rattle.vec_exact.specs.declared.limits.TheConstants.{MAX_FILE_LEN};
 ghost use Rattle.remap_io.specs.Folder.{OnFile};
 ghost use Rattle.remap_io.specs.Outside.{OnlyReads};
 ghost use Rattle.nc_write.specs.File.{file_of};
@@ -32,10 +33,7 @@ use std::alloc::Global;
 use std::marker::Brand;
 use std::sync::ledger::{Blank, Ledger};
 use std::thread::Threads;
-use vec_exact::{NoMemory, Steps};
-
-// The greatest length of a file.
-const MAX_LEN: u64 = 2_147_483_647;
+use vec_exact::{MAX_FILE_LEN, NoMemory, Steps};
 
 // The pieces of the overlap in columns, with a counter of its own.
 fn counted<R: Threads, L: Ledger>(
@@ -50,7 +48,8 @@ fn counted<R: Threads, L: Ledger>(
     requires parts { blank.parts ≡ L.parts }
     requires some { 0 < blank.parts }
     requires workers { (1 ≤ workers) × (workers ≤ 64) }
-    ensures overlap { IfOk result (HoldsOverlap (λ columns pieces. AreColumnsOf pieces columns) a.now b.now) }
+    ensures overlap { IfOk result
+        (HoldsOverlap (λ columns pieces. AreColumnsOf pieces columns) a.now b.now) }
     ensures refusal { IfErr result (IsRefusalOf a.now b.now) }
 {
     let mut steps = Steps::<L>::new(blank);
@@ -66,7 +65,8 @@ fn meet<R: Threads>(
     workers: u32,
 ) -> Result<Columns, RunFault>
     requires { (1 ≤ workers) × (workers ≤ 64) }
-    ensures overlap { IfOk result (HoldsOverlap (λ columns pieces. AreColumnsOf pieces columns) a.now b.now) }
+    ensures overlap { IfOk result
+        (HoldsOverlap (λ columns pieces. AreColumnsOf pieces columns) a.now b.now) }
     ensures refusal { IfErr result (IsRefusalOf a.now b.now) }
 {
     counted::<R, Brand>(rt, alloc, a, b, workers, Blank::new(1))
@@ -79,9 +79,12 @@ fn overlap_file(
     faces_b: u32,
     columns: Columns,
 ) -> Result<(Vec<u8>, String), NoMemory>
-    requires held { (o : OverlapParts) × IsInColumns o faces_a faces_b columns × (length (file_of (overlap_document o)) ≤ 2147483647) }
-    ensures bytes { (o : OverlapParts) → IsInColumns o faces_a faces_b columns → IfOk result (λ p. p.0.items ≡ file_of (overlap_document o)) }
-    ensures text { (o : OverlapParts) → IsInColumns o faces_a faces_b columns → IfOk result (λ p. string_bytes p.1 ≡ pieces_text (length o.pieces)) }
+    requires held { (o : OverlapParts) × IsInColumns o faces_a faces_b columns
+        × (length (file_of (overlap_document o)) ≤ MAX_FILE_LEN) }
+    ensures bytes { (o : OverlapParts) → IsInColumns o faces_a faces_b columns
+        → IfOk result (λ p. p.0.items ≡ file_of (overlap_document o)) }
+    ensures text { (o : OverlapParts) → IsInColumns o faces_a faces_b columns
+        → IfOk result (λ p. string_bytes p.1 ≡ pieces_text (length o.pieces)) }
 {
     let pieces = columns.sources.len();
     let text = format!(in alloc; "pieces {pieces}\n")?;
@@ -114,7 +117,7 @@ fn write_overlap<F: Files, O: Sink, E: Sink>(
     ensures no_line { result ≡ Status.Done → err.new ≡ err.old }
 {
     let length = columns_length(faces_a, faces_b, &columns);
-    if length > MAX_LEN {
+    if length > MAX_FILE_LEN {
         return refuse_length(err, file.text.as_str(), length);
     }
     let Ok((bytes, text)) = overlap_file(alloc, faces_a, faces_b, columns) else {

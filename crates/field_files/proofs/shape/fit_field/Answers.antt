@@ -1,15 +1,10 @@
-use Rattle.std.proofs.Common.{rules, ◌≡◌, ◌*◌, ◌-◌, ℕ, List, length, take, Option, Some, None, IsSomeAnd, slice_get, ap, ap₂, sym, subst, ◌∙◌, arith}
-use Rattle.nc_write.specs.declared.DocDim.{DocDim as NcDim}
+use Rattle.std.proofs.Common.{rules, ◌≡◌, ◌*◌, ◌-◌, ℕ, length, take, Option, Some, None, IsSomeAnd, slice_get, ap, sym, subst, ◌∙◌, arith}
 use Rattle.nc_write.specs.Kinds.{size_of}
-use Rattle.nc_write.specs.Extents.{lens_of}
 use Rattle.nc_format.specs.declared.NcVar.{NcVar}
-use Rattle.field_files.specs.FieldShapes.{trailing_count, slices_of}
+use Rattle.field_files.specs.FieldShapes.{slices_of}
 use Rattle.field_files.proofs.FoundFields.{field_place_ok}
-use Rattle.field_files.proofs.FieldValues.{has_slices, fitted_is, values_are}
+use Rattle.field_files.proofs.FieldValues.{is_here, fitted_is, values_are}
 use Rattle.field_files.proofs.shape.fit_field.Goals as goal
-
-trailing_is : (n_a : ℕ) (dims as_dims : List NcDim) (ids as_ids : List ℕ) (o : Option ℕ) → dims ≡ as_dims → ids ≡ as_ids → o ≡ trailing_count n_a (lens_of dims) ids → trailing_count n_a (lens_of as_dims) as_ids ≡ o
-trailing_is n_a dims as_dims ids as_ids o d i h = ap₂ (λ (a : List NcDim) (b : List ℕ). trailing_count n_a (lens_of a) b) (sym d) (sym i) ∙ sym h
 
 -- there is a variable at the place
 some_var : (o : Option NcVar) (v : NcVar) → (let none : Option NcVar = None in none ≡ o) → o ≡ Some v → ⊥
@@ -25,60 +20,68 @@ returns-in_default-clause-over c =
 
 pub overflow_sub-result : goal.overflow_sub-result
 overflow_sub-result c =
-    let dims : c.deref.result.now ≡ c.args.file.now.dims = search rules in
-    let ids : c.deref-2.result.now ≡ c.in-Some.var.now.dims = search rules in
-    let len : c.len.result ≡ length c.in-Some.var.now.dims = search rules in
-    let tr = trailing_is c.args.n_a c.deref.result.now c.args.file.now.dims c.deref-2.result.now c.in-Some.var.now.dims (Some c.in-Some-trailing_count.trailing) dims ids c.in-Some-trailing_count.ensures in
-    let has = has_slices c.args.file.now c.args.place c.args.n_a c.in-Some.var.now c.in-Some-trailing_count.trailing c.requires.header c.requires.place (sym c.in-Some.ensures) tr in
-    omega (arith, has.within, len)
+    let dims : c.as_slice-dims.result.now ≡ c.args.file.now.dims = search rules in
+    let ids : c.as_slice-ids.result.now ≡ c.in-Some.var.now.dims = search rules in
+    let here =
+    is_here c.args.file.now c.args.place c.args.n_a c.in-Some.var.now c.in-Some-trailing_count.trailing c.last_len-last.result c.len_before_last.result c.as_slice-dims.result.now c.as_slice-ids.result.now c.requires.header c.requires.place c.in-Some.ensures dims ids
+    c.last_len-last.ensures c.len_before_last.ensures c.in-Some-trailing_count.ensures in
+    omega (arith, here.slices.within, ap length ids)
 
 pub slice_count-requires-clause-sources : goal.slice_count-requires-clause-sources
 slice_count-requires-clause-sources c =
-    let dims : c.deref.result.now ≡ c.args.file.now.dims = search rules in
-    let ids : c.deref-2.result.now ≡ c.in-Some.var.now.dims = search rules in
-    let tr = trailing_is c.args.n_a c.deref.result.now c.args.file.now.dims c.deref-2.result.now c.in-Some.var.now.dims (Some c.in-Some-trailing_count.trailing) dims ids c.in-Some-trailing_count.ensures in
-    (has_slices c.args.file.now c.args.place c.args.n_a c.in-Some.var.now c.in-Some-trailing_count.trailing c.requires.header c.requires.place (sym c.in-Some.ensures) tr).sources
+    let dims : c.as_slice-dims.result.now ≡ c.args.file.now.dims = search rules in
+    let ids : c.as_slice-ids.result.now ≡ c.in-Some.var.now.dims = search rules in
+    let here =
+    is_here c.args.file.now c.args.place c.args.n_a c.in-Some.var.now c.in-Some-trailing_count.trailing c.last_len-last.result c.len_before_last.result c.as_slice-dims.result.now c.as_slice-ids.result.now c.requires.header c.requires.place c.in-Some.ensures dims ids
+    c.last_len-last.ensures c.len_before_last.ensures c.in-Some-trailing_count.ensures in
+    here.slices.sources
 
 pub slice_count-requires-clause-short : goal.slice_count-requires-clause-short
 slice_count-requires-clause-short c =
-    let dims : c.deref.result.now ≡ c.args.file.now.dims = search rules in
-    let ids : c.deref-2.result.now ≡ c.in-Some.var.now.dims = search rules in
-    let tr = trailing_is c.args.n_a c.deref.result.now c.args.file.now.dims c.deref-2.result.now c.in-Some.var.now.dims (Some c.in-Some-trailing_count.trailing) dims ids c.in-Some-trailing_count.ensures in
-    (has_slices c.args.file.now c.args.place c.args.n_a c.in-Some.var.now c.in-Some-trailing_count.trailing c.requires.header c.requires.place (sym c.in-Some.ensures) tr).short
+    let dims : c.as_slice-dims.result.now ≡ c.args.file.now.dims = search rules in
+    let ids : c.as_slice-ids.result.now ≡ c.in-Some.var.now.dims = search rules in
+    let here =
+    is_here c.args.file.now c.args.place c.args.n_a c.in-Some.var.now c.in-Some-trailing_count.trailing c.last_len-last.result c.len_before_last.result c.as_slice-dims.result.now c.as_slice-ids.result.now c.requires.header c.requires.place c.in-Some.ensures dims ids
+    c.last_len-last.ensures c.len_before_last.ensures c.in-Some-trailing_count.ensures in
+    here.slices.short
 
 pub slice_count-requires-clause-whole : goal.slice_count-requires-clause-whole
 slice_count-requires-clause-whole c =
-    let dims : c.deref.result.now ≡ c.args.file.now.dims = search rules in
-    let ids : c.deref-2.result.now ≡ c.in-Some.var.now.dims = search rules in
-    let tr = trailing_is c.args.n_a c.deref.result.now c.args.file.now.dims c.deref-2.result.now c.in-Some.var.now.dims (Some c.in-Some-trailing_count.trailing) dims ids c.in-Some-trailing_count.ensures in
-    (_, (has_slices c.args.file.now c.args.place c.args.n_a c.in-Some.var.now c.in-Some-trailing_count.trailing c.requires.header c.requires.place (sym c.in-Some.ensures) tr).pieces)
+    let dims : c.as_slice-dims.result.now ≡ c.args.file.now.dims = search rules in
+    let ids : c.as_slice-ids.result.now ≡ c.in-Some.var.now.dims = search rules in
+    let here =
+    is_here c.args.file.now c.args.place c.args.n_a c.in-Some.var.now c.in-Some-trailing_count.trailing c.last_len-last.result c.len_before_last.result c.as_slice-dims.result.now c.as_slice-ids.result.now c.requires.header c.requires.place c.in-Some.ensures dims ids
+    c.last_len-last.ensures c.len_before_last.ensures c.in-Some-trailing_count.ensures in
+    (_, here.slices.pieces)
 
 pub returns-clause-over : goal.returns-clause-over
 returns-clause-over c =
-    let dims : c.deref.result.now ≡ c.args.file.now.dims = search rules in
-    let ids : c.deref-2.result.now ≡ c.in-Some.var.now.dims = search rules in
-    let len : c.len.result ≡ length c.in-Some.var.now.dims = search rules in
-    let tr = trailing_is c.args.n_a c.deref.result.now c.args.file.now.dims c.deref-2.result.now c.in-Some.var.now.dims (Some c.in-Some-trailing_count.trailing) dims ids c.in-Some-trailing_count.ensures in
-    let has = has_slices c.args.file.now c.args.place c.args.n_a c.in-Some.var.now c.in-Some-trailing_count.trailing c.requires.header c.requires.place (sym c.in-Some.ensures) tr in
-    fitted_is c.args.file.now c.args.place c.args.n_a c.in-Some.var.now c.in-Some-trailing_count.trailing c.len.result c.slice_count.result (sym c.in-Some.ensures) tr len (c.slice_count.ensures.slices _ has.pieces)
+    let dims : c.as_slice-dims.result.now ≡ c.args.file.now.dims = search rules in
+    let ids : c.as_slice-ids.result.now ≡ c.in-Some.var.now.dims = search rules in
+    let here =
+    is_here c.args.file.now c.args.place c.args.n_a c.in-Some.var.now c.in-Some-trailing_count.trailing c.last_len-last.result c.len_before_last.result c.as_slice-dims.result.now c.as_slice-ids.result.now c.requires.header c.requires.place c.in-Some.ensures dims ids
+    c.last_len-last.ensures c.len_before_last.ensures c.in-Some-trailing_count.ensures in
+    fitted_is c.args.file.now c.args.place c.args.n_a c.in-Some.var.now c.in-Some-trailing_count.trailing (length c.as_slice-ids.result.now) c.slice_count.result (sym c.in-Some.ensures) here.count (ap length ids) (c.slice_count.ensures.slices _ here.slices.pieces)
 
 pub returns-clause-pieces : goal.returns-clause-pieces
 returns-clause-pieces c =
-    let dims : c.deref.result.now ≡ c.args.file.now.dims = search rules in
-    let ids : c.deref-2.result.now ≡ c.in-Some.var.now.dims = search rules in
-    let tr = trailing_is c.args.n_a c.deref.result.now c.args.file.now.dims c.deref-2.result.now c.in-Some.var.now.dims (Some c.in-Some-trailing_count.trailing) dims ids c.in-Some-trailing_count.ensures in
-    let has = has_slices c.args.file.now c.args.place c.args.n_a c.in-Some.var.now c.in-Some-trailing_count.trailing c.requires.header c.requires.place (sym c.in-Some.ensures) tr in
-    let whole = pieces_are c.in-Some.var.now c.args.n_a c.slice_count.result (slices_of c.args.file.now (take (length c.in-Some.var.now.dims - c.in-Some-trailing_count.trailing) c.in-Some.var.now.dims)) has.pieces (c.slice_count.ensures.slices _ has.pieces) in
+    let dims : c.as_slice-dims.result.now ≡ c.args.file.now.dims = search rules in
+    let ids : c.as_slice-ids.result.now ≡ c.in-Some.var.now.dims = search rules in
+    let here =
+    is_here c.args.file.now c.args.place c.args.n_a c.in-Some.var.now c.in-Some-trailing_count.trailing c.last_len-last.result c.len_before_last.result c.as_slice-dims.result.now c.as_slice-ids.result.now c.requires.header c.requires.place c.in-Some.ensures dims ids
+    c.last_len-last.ensures c.len_before_last.ensures c.in-Some-trailing_count.ensures in
+    let whole = pieces_are c.in-Some.var.now c.args.n_a c.slice_count.result (slices_of c.args.file.now (take (length c.in-Some.var.now.dims - c.in-Some-trailing_count.trailing) c.in-Some.var.now.dims)) here.slices.pieces (c.slice_count.ensures.slices _ here.slices.pieces) in
     let there : Some c.in-Some.var.now ≡ slice_get c.args.file.now.vars c.args.place = c.in-Some.ensures in
     subst (λ (o : Option NcVar). IsSomeAnd o (λ v. v.parts * v.part ≡ c.slice_count.result * c.args.n_a * size_of v.kind)) there whole
 
 pub returns-clause-values : goal.returns-clause-values
 returns-clause-values c =
-    let dims : c.deref.result.now ≡ c.args.file.now.dims = search rules in
-    let ids : c.deref-2.result.now ≡ c.in-Some.var.now.dims = search rules in
-    let tr = trailing_is c.args.n_a c.deref.result.now c.args.file.now.dims c.deref-2.result.now c.in-Some.var.now.dims (Some c.in-Some-trailing_count.trailing) dims ids c.in-Some-trailing_count.ensures in
-    let has = has_slices c.args.file.now c.args.place c.args.n_a c.in-Some.var.now c.in-Some-trailing_count.trailing c.requires.header c.requires.place (sym c.in-Some.ensures) tr in
-    let whole = pieces_are c.in-Some.var.now c.args.n_a c.slice_count.result (slices_of c.args.file.now (take (length c.in-Some.var.now.dims - c.in-Some-trailing_count.trailing) c.in-Some.var.now.dims)) has.pieces (c.slice_count.ensures.slices _ has.pieces) in
+    let dims : c.as_slice-dims.result.now ≡ c.args.file.now.dims = search rules in
+    let ids : c.as_slice-ids.result.now ≡ c.in-Some.var.now.dims = search rules in
+    let here =
+    is_here c.args.file.now c.args.place c.args.n_a c.in-Some.var.now c.in-Some-trailing_count.trailing c.last_len-last.result c.len_before_last.result c.as_slice-dims.result.now c.as_slice-ids.result.now c.requires.header c.requires.place c.in-Some.ensures dims ids
+    c.last_len-last.ensures c.len_before_last.ensures c.in-Some-trailing_count.ensures in
+    let whole = pieces_are c.in-Some.var.now c.args.n_a c.slice_count.result (slices_of c.args.file.now (take (length c.in-Some.var.now.dims - c.in-Some-trailing_count.trailing) c.in-Some.var.now.dims)) here.slices.pieces (c.slice_count.ensures.slices _ here.slices.pieces) in
     values_are c.args.file.now c.args.place (c.slice_count.result * c.args.n_a) c.in-Some.var.now (sym c.in-Some.ensures) whole
 
 pub returns-clause-fits : goal.returns-clause-fits

@@ -6,7 +6,7 @@ use Rattle.exodus_mesh.specs.MeshValues.{mesh_of}
 use Rattle.exodus_mesh.proofs.FoundVars.{AreMeshVars, mesh_vars_ok}
 use Rattle.remap_load.specs.Pieces.{numbers_at}
 use Rattle.remap_load.proofs.Contents.{filled}
-use Rattle.mesh_load.specs.Places.{coord_places}
+use Rattle.exodus_mesh.specs.MeshIn.{coord_places}
 use Rattle.mesh_load.proofs.Raw.{HasInts, place_of, coords_ints, blocks_ints, coords_long, rows_long, raw_reads, raw_is}
 use Rattle.mesh_load.proofs.RawCounts.{raw_nodes, raw_faces}
 use Rattle.mesh_load.proofs.values.load_raw.Goals as goal
