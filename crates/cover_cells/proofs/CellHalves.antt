@@ -16,7 +16,8 @@ use Rattle.cone_laws.proofs.Inside.{cone_pos, none_beyond}
 use Rattle.cone_laws.proofs.Turned.{turned_convex}
 use Rattle.cone_laws.proofs.OnePlane.{Crosses, Joins, joined_convex, joined_inside}
 use Rattle.cover_cells.specs.declared.cells.CellPlane.{CellPlane}
-use Rattle.cover_cells.specs.Cells.{plane_of, planes_of, IsNamed, IsCell, is_positive, IsHalf, HasNoHalf}
+use Rattle.cover_cells.specs.Cells.{plane_of, planes_of, IsNamed, IsCell, is_positive}
+use Rattle.cover_cells.specs.Splitting.{IsHalf, HasNoHalf}
 use Rattle.cover_cells.specs.Sides.{side_at, AreSides, IsRun, IsRunOf}
 use Rattle.cover_cells.proofs.Positive.{lt_true, lt_from, bool_same, positive_from, positive_to}
 use Rattle.cover_cells.proofs.Runs.{place_back}

@@ -5,7 +5,8 @@ use Rattle.std.proofs.lemmas.List.Sums.{sum_by-append, sum_by-cons, count_by_mor
 use Rattle.vec_exact.specs.declared.RawMesh.{RawMesh}
 use Rattle.vec_exact.specs.declared.Vec3.{Vec3}
 use Rattle.cover_cells.specs.declared.cells.CellPlane.{CellPlane}
-use Rattle.cover_cells.specs.Cells.{plane_of, is_positive, is_in_cell, cells_with, number_if, HasNoHalf, IsHalf}
+use Rattle.cover_cells.specs.Cells.{plane_of, is_positive, is_in_cell, cells_with}
+use Rattle.cover_cells.specs.Splitting.{number_if, HasNoHalf, IsHalf}
 
 module _ (sources : RawMesh) (target : List Vec3) where
   pub cells_with-append : (d : Vec3) (xs ys : List (List CellPlane)) → cells_with sources target d (xs ++ ys) ≡ cells_with sources target d xs + cells_with sources target d ys

@@ -16,7 +16,8 @@ use Rattle.cone_laws.specs.Ring.{face_planes}
 use Rattle.cone_laws.proofs.Pairs.{length-face_planes, face_planes_at}
 use Rattle.mesh_check.specs.Mesh.{corners_of}
 use Rattle.cover_cells.specs.declared.cells.CellPlane.{CellPlane}
-use Rattle.cover_cells.specs.Cells.{plane_of, IsNamed, is_positive, leaves, number_if}
+use Rattle.cover_cells.specs.Cells.{plane_of, IsNamed, is_positive}
+use Rattle.cover_cells.specs.Splitting.{leaves, number_if}
 use Rattle.cover_cells.proofs.Positive.{lt_true, lt_false, never_both}
 
 -- ---- one plane

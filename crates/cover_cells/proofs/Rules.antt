@@ -12,7 +12,8 @@ use Rattle.cone_laws.specs.Inside.{IsInside, IsInClosure}
 use Rattle.cone_laws.specs.Ring.{face_planes}
 use Rattle.cone_laws.proofs.Pairs.{length-face_planes, face_planes_at}
 use Rattle.cover_cells.specs.declared.cells.CellPlane.{CellPlane}
-use Rattle.cover_cells.specs.Cells.{is_in_cell, cells_with, leaves, number_if, IsBeyondAnEdge, IsOffEdges}
+use Rattle.cover_cells.specs.Cells.{is_in_cell, cells_with, IsBeyondAnEdge, IsOffEdges}
+use Rattle.cover_cells.specs.Splitting.{leaves, number_if}
 use Rattle.cover_cells.proofs.Positive.{positive_to}
 use Rattle.cover_cells.proofs.Counts.{counts_held, held_counts}
 use Rattle.cover_cells.proofs.Leaving.{inside_stays, leaves_negative, negative_leaves}

@@ -14,7 +14,8 @@ use Rattle.cone_laws.specs.Inside.{IsInside}
 use Rattle.cone_laws.proofs.Turned.{same_convex}
 use Rattle.cone_laws.proofs.FaceEdges.{face_convex}
 use Rattle.cover_cells.specs.declared.cells.CellPlane.{CellPlane}
-use Rattle.cover_cells.specs.Cells.{plane_of, planes_of, IsNamed, IsCell, is_in_cell, cells_with, AreTargetEdges}
+use Rattle.cover_cells.specs.Cells.{plane_of, planes_of, IsNamed, IsCell, is_in_cell, cells_with}
+use Rattle.cover_cells.specs.Splitting.{AreTargetEdges}
 use Rattle.cover_cells.proofs.Positive.{positive_from, positive_to}
 
 module _ (sources : RawMesh) (target : List Vec3) (cell : List CellPlane) (edges : AreTargetEdges (length target) cell) where

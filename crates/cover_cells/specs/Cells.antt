@@ -1,6 +1,6 @@
 -- Cells: what is left of a target face, as rings of edge planes that may be turned round. The target is given by its nodes.
 -- Source: our own.
-use Rattle.std.specs.Prelude.{◌≡◌, ◌≢◌, ℕ, ◌+◌, ◌-◌, ◌<◌, ◌≤◌, pos, negsuc, ◌<ℤ◌, int_lt, nat_eq, Bool, false, ◌&&◌, if◌then◌else◌, List, [], ◌∷◌, length, map, All, count_by, slice_index_or, IsTrue}
+use Rattle.std.specs.Prelude.{◌≢◌, ℕ, ◌-◌, ◌<◌, ◌≤◌, pos, negsuc, ◌<ℤ◌, int_lt, nat_eq, Bool, if◌then◌else◌, List, length, map, All, count_by, IsTrue}
 use Rattle.std.specs.List.{list_all}
 use Rattle.vec_exact.specs.declared.RawMesh.{RawMesh}
 use Rattle.vec_exact.specs.declared.Vec3.{Vec3}
@@ -63,26 +63,3 @@ IsAway sources target cell i = (d : Vec3) → IsTrue (is_in_cell sources target 
 -- no edge plane of the face is zero on d
 abbrev pub IsOffEdges : List Vec3 → Vec3 → Type 0
 IsOffEdges face d = (t : ℕ) → t < length face → inner (face_plane face t) d ≢ pos 0
-
--- some plane is negative on d, and all before it are positive
-abbrev pub leaves : Vec3 → List Vec3 → Bool
-leaves d [] = false
-leaves d (n ∷ ns) = if is_positive d n then leaves d ns else int_lt (inner n d) (pos 0)
-
--- the number if the test holds, else 0
-abbrev pub number_if : Bool → ℕ → ℕ
-number_if test n = if test then n else 0
-
--- part has the directions of cell on which p is positive
-pub record IsHalf (sources : RawMesh) (target : List Vec3) (cell : List CellPlane) (p : CellPlane) (part : List CellPlane) : Type 0 where
-  pub is_cell : IsCell sources target part
-  pub same : (d : Vec3) → is_in_cell sources target d part ≡ (is_positive d (plane_of sources target p) && is_in_cell sources target d cell)
-
--- p is positive on no direction of cell
-abbrev pub HasNoHalf : RawMesh → List Vec3 → List CellPlane → CellPlane → Type 0
-HasNoHalf sources target cell p = (d : Vec3) → (is_positive d (plane_of sources target p) && is_in_cell sources target d cell) ≡ false
-
--- the edges of a target of n edges, in order
-pub record AreTargetEdges (n : ℕ) (cell : List CellPlane) : Type 0 where
-  pub len : length cell ≡ n
-  pub each : (t : ℕ) (e : CellPlane) → t < n → slice_index_or cell t e ≡ record { source = 0; edge = t + 1; neg = false }

@@ -1,3 +1,4 @@
 pub mod Cells
 pub mod Coverage
 pub mod Sides
+pub mod Splitting

@@ -2,7 +2,8 @@
 ghost use Rattle.std.specs.Prelude.{◌≡◌, ◌≤◌, ◌<◌, length, All, IfOk, MatchOption};
 ghost use Rattle.vec_exact.specs.declared.Vec3.{Vec3 as Direction};
 ghost use Rattle.mesh_check.specs.Mesh.{corners_of};
-ghost use Rattle.cover_cells.specs.Cells.{IsCell, IsNamed, IsHalf, HasNoHalf, plane_of as plane, is_positive, cells_with, number_if};
+ghost use Rattle.cover_cells.specs.Cells.{IsCell, IsNamed, plane_of as plane, is_positive, cells_with};
+ghost use Rattle.cover_cells.specs.Splitting.{IsHalf, HasNoHalf, number_if};
 ghost use Rattle.cover_cells.specs.Sides.{IsRunOf};
 
 use crate::planes::{plane_of, sides_on};

@@ -5,7 +5,8 @@ ghost use Rattle.vec_exact.specs.declared.Vec3.{Vec3 as Direction};
 ghost use Rattle.vec_exact.specs.Face.{IsAcceptedFace};
 ghost use Rattle.cone_laws.specs.Inside.{IsInside};
 ghost use Rattle.mesh_check.specs.Mesh.{corners_of};
-ghost use Rattle.cover_cells.specs.Cells.{IsCell, AreTargetEdges, cells_with};
+ghost use Rattle.cover_cells.specs.Cells.{IsCell, cells_with};
+ghost use Rattle.cover_cells.specs.Splitting.{AreTargetEdges};
 
 use crate::{Cell, CellPlane, Cells};
 use mesh_check::{Mesh, edge_count};

@@ -1,12 +1,12 @@
 -- There is at most one report on a mesh.
-use Rattle.std.proofs.Common.{◌≡◌, ℕ, ◌+◌, Bool, true, List, ℤ, length, arith, sym, ap, ◌∙◌, ◌↔◌}
+use Rattle.std.proofs.Common.{◌≡◌, ℕ, Bool, true, List, ℤ, length, arith, sym, ap, ◌∙◌, ◌↔◌}
 use Rattle.std.specs.Cmp.{both_ways}
 use Rattle.vec_exact.specs.declared.RawMesh.{RawMesh}
 use Rattle.overlap_run.specs.Pairs.{IsCountOf}
 use Rattle.overlap_run.proofs.Unique.{exactly_one}
 use Rattle.mesh_partition.specs.declared.reporting.MeshReport.{MeshReport}
 use Rattle.mesh_partition.specs.Edges.{IsEdgeCount, IsEdge, IsUnpaired}
-use Rattle.mesh_partition.specs.MeshReport.{DoOverlap, IsMeshReportOf, OneMeshReport}
+use Rattle.mesh_partition.specs.MeshReport.{DoOverlap, OneMeshReport}
 use Rattle.mesh_partition.proofs.Lengths.{same_length}
 
 same_edges : (P : List ℤ → Type 0) (m n : ℕ) → IsEdgeCount P m → IsEdgeCount P n → m ≡ n

@@ -1,5 +1,5 @@
 -- Counts that never fall, over calls one after another.
-use Rattle.std.proofs.Common.{◌≡◌, ◌≤◌, ◌∙◌, ℕ, refl, arith}
+use Rattle.std.proofs.Common.{◌≤◌, ◌∙◌, ℕ, refl, arith}
 use Rattle.remap_io.specs.Causes.{Rose, IsLater}
 use Rattle.remap_io.specs.Outside.{FilesSeen, SinkSeen, NoCountFalls, NoPutCountFalls, OnlyReads}
 

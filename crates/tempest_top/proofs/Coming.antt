@@ -1,6 +1,5 @@
 -- What a call comes to, stage by stage: how it ends, a file that is refused, and what follows a file.
 use Rattle.std.proofs.Common.{◌≡◌, ◌≢◌, ◌⊎◌, ◌∙◌, ◌+◌, ◌≤◌, ℕ, List, [], ◌∷◌, Option, Some, None, IfSome, codes, refl, sym, ap, subst, inl, inr, arith}
-use Rattle.std.specs.List.{sum_by}
 use Rattle.std.specs.Prelude.{⊤}
 use Rattle.std.proofs.lemmas.List.Sums.{sum_by-cons}
 use Rattle.remap_io.specs.Causes.{Rose}
@@ -11,16 +10,16 @@ use Rattle.remap_load.specs.declared.fault.LoadFault.TheVariants as load
 use Rattle.remap_load.specs.declared.refusal.FileRefusal.{FileRefusal}
 use Rattle.remap_load.specs.declared.refusal.FileRefusal.TheVariants.{Load, Content}
 use Rattle.remap_load.specs.Kinds.{HasContent, IsFile, IsFileRefusal, file_cost}
-use Rattle.remap_load.proofs.Contents.{told_content, told_refusal, told_of}
+use Rattle.remap_load.proofs.Contents.{told_refusal, told_of}
 use Rattle.tempest_top.specs.declared.status.Status.{Status}
 use Rattle.tempest_top.specs.declared.status.Status.TheVariants.{Done, Usage, NoFile, Format, Names, Mesh, Rows, Uncovered, Limit, Field, ReadFault, WriteFault, NoMemory}
 use Rattle.tempest_top.specs.Scene.{Scene, scene}
-use Rattle.tempest_top.specs.Lines.{line_of, PutsText}
-use Rattle.tempest_top.specs.Faults.{FileWords, status_of, text_of, load_text, read_fault_text}
+use Rattle.tempest_top.specs.Lines.{PutsText}
+use Rattle.tempest_top.specs.Faults.{FileWords, status_of, text_of, read_fault_text}
 use Rattle.tempest_top.specs.Inputs.{Input, name_of_input, IsGood, cost_of, IsFileText, IsInputText, AreTold, IsReached, reading_cost}
 use Rattle.tempest_top.specs.Outcome.{Output, Outcome, AfterFile, refusal}
 use Rattle.tempest_top.specs.Promises.{IsTextOf, IsWriteFaultText, IsLate, IsPartlyWritten}
-use Rattle.tempest_top.specs.Ends.{IsEnd, IsEndText, written_name, Ends, Belongs, IsUntouched, IsStopped, IsCutShort, IsEnded, Comes}
+use Rattle.tempest_top.specs.Ends.{IsEnd, IsEndText, written_name, Ends, IsUntouched, IsStopped, IsCutShort, IsEnded, Comes}
 
 -- the texts of a stage
 abbrev Own : Type 1

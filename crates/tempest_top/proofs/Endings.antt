@@ -1,7 +1,6 @@
 -- What the ends of commands come to.
-use Rattle.std.proofs.Common.{◌≡◌, ◌≢◌, ◌∙◌, ◌<◌, ◌≤◌, ℕ, List, [], length, Option, Some, codes, refl, sym, ap, ap₂, subst, inl, inr}
+use Rattle.std.proofs.Common.{◌≡◌, ◌<◌, ◌≤◌, ℕ, List, [], length, Option, Some, codes, refl, ap, ap₂, subst, inl, inr}
 use Rattle.vec_exact.specs.declared.RawMesh.{RawMesh}
-use Rattle.remap_io.specs.Folder.{Folder}
 use Rattle.nc_write.specs.File.{file_of}
 use Rattle.nc_write.specs.declared.NcDoc.{NcDoc}
 use Rattle.mesh_check.specs.declared.faults.MeshFault.{MeshFault}
@@ -18,7 +17,7 @@ use Rattle.tempest_top.specs.declared.status.Status.TheVariants.{Mesh, Limit}
 use Rattle.tempest_top.specs.Scene.{Scene}
 use Rattle.tempest_top.specs.Lines.{pieces_text, PutsText}
 use Rattle.tempest_top.specs.Faults.{length_text, too_many_pieces_text, mesh_fault_text, run_text, status_of_run, made_text, status_of_made}
-use Rattle.tempest_top.specs.Outcome.{Output, Outcome, IsOutcomeOfDocument, IsOutcomeOfPair, refusal, fault_of_made, mesh_output, mesh_written, written}
+use Rattle.tempest_top.specs.Outcome.{IsOutcomeOfDocument, IsOutcomeOfPair, refusal, fault_of_made, mesh_output, mesh_written, written}
 use Rattle.tempest_top.specs.Promises.{IsMadeText, IsOverlapText}
 use Rattle.tempest_top.specs.Ends.{written_name, Ends, Comes}
 use Rattle.tempest_top.proofs.Coming.{Goal, comes_own, comes_stopped, comes_done, comes_as}

@@ -1,11 +1,9 @@
 -- What is promised of a call, by what it comes to.
-use Rattle.std.proofs.Common.{◌≡◌, ◌≢◌, ◌⊎◌, ◌∙◌, ◌+◌, ◌≤◌, ℕ, List, [], ◌∷◌, true, false, Option, Some, None, codes, refl, sym, ap, subst, inl, inr}
-use Rattle.remap_io.specs.Causes.{Rose}
+use Rattle.std.proofs.Common.{◌≡◌, ◌≢◌, ◌⊎◌, ◌∙◌, ℕ, List, [], ◌∷◌, true, false, Option, Some, None, codes, refl, sym, subst, inl, inr}
 use Rattle.remap_io.specs.Folder.{Folder}
 use Rattle.remap_load.specs.declared.fault.LoadFault.TheVariants as load
 use Rattle.remap_load.specs.declared.refusal.FileRefusal.{FileRefusal}
 use Rattle.remap_load.specs.declared.refusal.FileRefusal.TheVariants.{Load, Content}
-use Rattle.mesh_load.specs.declared.MeshFileFault.{MeshFileFault}
 use Rattle.mesh_load.specs.declared.MeshFileFault.TheVariants as of_file
 use Rattle.command_line.specs.declared.choices.Chosen.{Chosen}
 use Rattle.command_line.specs.declared.choices.Chosen.TheVariants.{Cs, Rll, Ico, Overlap, OfflineMap, Apply, SelfRun, Coverage, Check}
@@ -14,12 +12,12 @@ use Rattle.tempest_top.specs.declared.status.Status.TheVariants.{Done, Usage, No
 use Rattle.tempest_top.specs.Scene.{Scene}
 use Rattle.tempest_top.specs.Lines.{line_of, GainsLine, IsPutRefused, PutsText}
 use Rattle.tempest_top.specs.Faults.{FileWords, status_of, mesh_words}
-use Rattle.tempest_top.specs.Inputs.{Input, MeshFile, inputs_of, output_of, AreTold, IsReached, IsFileText, IsInputText}
-use Rattle.tempest_top.specs.Outcome.{Output, Outcome, IsOutcome, TheOutcome, refusal, is_usage, usage}
-use Rattle.tempest_top.specs.Promises.{IsWriteFailed, IsAnswer, IsWriteFaultText, IsUsageText, IsOwnText, IsTextOf, IsText, IsLineText, PutsLine, Keeps}
+use Rattle.tempest_top.specs.Inputs.{Input, MeshFile, inputs_of, output_of, AreTold, IsReached, IsInputText}
+use Rattle.tempest_top.specs.Outcome.{Output, Outcome, IsOutcome, TheOutcome, is_usage}
+use Rattle.tempest_top.specs.Promises.{IsWriteFailed, IsAnswer, IsWriteFaultText, IsOwnText, IsText, PutsLine, Keeps}
 use Rattle.tempest_top.specs.Ends.{IsEnd, IsEndText, written_name, Ends, Belongs, IsStopped, IsCutShort, IsEnded, Comes}
 use Rattle.tempest_top.proofs.Outcomes.{one_outcome, usage_outcome}
-use Rattle.tempest_top.proofs.Coming.{IsContentStatus, IsSpoken, IsInput, comes_own, comes_stopped}
+use Rattle.tempest_top.proofs.Coming.{IsContentStatus, IsSpoken, comes_own, comes_stopped}
 
 -- the outcome is the only one
 the_outcome : (chosen : Option Chosen) (m : Option Folder) (P : Outcome → Type 0) (o : Outcome) → (AreTold (inputs_of chosen) m → IsOutcome chosen m o) → P o → TheOutcome chosen m P

@@ -7,7 +7,7 @@ use Rattle.remap_load.specs.declared.refusal.FileRefusal.{FileRefusal}
 use Rattle.remap_load.specs.Kinds.{HasContent, IsFileRefusal, file_cost}
 use Rattle.mesh_load.specs.declared.MeshFileFault.{MeshFileFault}
 use Rattle.tempest_top.specs.declared.status.Status.{Status}
-use Rattle.tempest_top.specs.Scene.{Scene, scene}
+use Rattle.tempest_top.specs.Scene.{Scene}
 use Rattle.tempest_top.specs.Lines.{PutsText}
 use Rattle.tempest_top.specs.Faults.{mesh_words, status_of, text_of}
 use Rattle.tempest_top.specs.Inputs.{MeshFile}

@@ -1,5 +1,5 @@
 -- How a call ends that comes to an outcome. No public contract cites this file.
-use Rattle.std.specs.Prelude.{◌≡◌, ◌≢◌, ◌⊎◌, ◌+◌, ◌≤◌, ℕ, List, [], codes, Option, Some, None, IfSome, option_map, ⊤}
+use Rattle.std.specs.Prelude.{◌≡◌, ◌≢◌, ◌⊎◌, ◌+◌, ◌≤◌, ℕ, List, [], codes, Option, Some, None, IfSome, ⊤}
 use Rattle.remap_io.specs.Causes.{Rose}
 use Rattle.remap_io.specs.Folder.{Folder}
 use Rattle.remap_io.specs.Held.{Gains, GainsPart}

@@ -1,5 +1,5 @@
 -- What the program promises of a call, against the outcome of its words. In each word the last argument is the status of the call.
-use Rattle.std.specs.Prelude.{◌≡◌, ◌≢◌, ◌⊎◌, ◌+◌, ◌<◌, ◌≤◌, ℕ, List, [], ◌++◌, codes, Bool, true, Option, Some, None, IfSome, ⊤}
+use Rattle.std.specs.Prelude.{◌≡◌, ◌≢◌, ◌⊎◌, ◌+◌, ◌<◌, ◌≤◌, ℕ, List, [], ◌++◌, codes, true, Option, Some, None, IfSome, ⊤}
 use Rattle.vec_exact.specs.declared.limits.TheConstants.{MAX_FILE_LEN, MAX_PIECES}
 use Rattle.remap_io.specs.Causes.{Rose}
 use Rattle.remap_io.specs.Folder.{Folder, IsPartlyReplaced}

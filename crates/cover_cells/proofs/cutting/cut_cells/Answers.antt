@@ -7,7 +7,8 @@ use Rattle.vec_exact.proofs.Accepted.{length-face_nodes}
 use Rattle.cone_laws.specs.Ring.{face_planes}
 use Rattle.cone_laws.proofs.Pairs.{length-face_planes}
 use Rattle.mesh_check.specs.Mesh.{face_of, corners_of}
-use Rattle.cover_cells.specs.Cells.{IsCell, cells_with, leaves, number_if}
+use Rattle.cover_cells.specs.Cells.{IsCell, cells_with}
+use Rattle.cover_cells.specs.Splitting.{leaves, number_if}
 use Rattle.cover_cells.proofs.Counts.{cells_with-append}
 use Rattle.cover_cells.proofs.Leaving.{edge_named, out_step, rest_step}
 use Rattle.cover_cells.proofs.Rules.{left_given, left_beyond, left_inside, left_outside}

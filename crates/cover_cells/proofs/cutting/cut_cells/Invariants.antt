@@ -4,7 +4,8 @@ use Rattle.std.specs.List.{list_all}
 use Rattle.vec_exact.specs.declared.Vec3.{Vec3}
 use Rattle.cone_laws.specs.Ring.{face_planes}
 use Rattle.mesh_check.specs.Mesh.{corners_of}
-use Rattle.cover_cells.specs.Cells.{IsCell, is_positive, cells_with, leaves, number_if}
+use Rattle.cover_cells.specs.Cells.{IsCell, is_positive, cells_with}
+use Rattle.cover_cells.specs.Splitting.{leaves, number_if}
 use Rattle.cover_cells.proofs.cutting.cut_cells.Given as goal
 
 abbrev pub invariant-loop-t : goal.invariant-loop-t

@@ -1,7 +1,8 @@
 use Rattle.std.proofs.Common.{List, sym, ◌∙◌, subst}
 use Rattle.mesh_check.specs.Mesh.{corners_of}
 use Rattle.cover_cells.specs.declared.cells.CellPlane.{CellPlane}
-use Rattle.cover_cells.specs.Cells.{plane_of, IsHalf}
+use Rattle.cover_cells.specs.Cells.{plane_of}
+use Rattle.cover_cells.specs.Splitting.{IsHalf}
 use Rattle.cover_cells.specs.Sides.{IsRunOf}
 use Rattle.cover_cells.proofs.CellHalves.{are_sides, half_of_none, half_of_whole, half_of_run}
 use Rattle.cover_cells.proofs.halves.half.Goals as goal

@@ -2,7 +2,8 @@ use Rattle.std.proofs.Common.{◌≡◌, take}
 use Rattle.std.specs.Prelude.{All}
 use Rattle.vec_exact.specs.declared.Vec3.{Vec3}
 use Rattle.mesh_check.specs.Mesh.{corners_of}
-use Rattle.cover_cells.specs.Cells.{plane_of, IsCell, is_positive, cells_with, number_if}
+use Rattle.cover_cells.specs.Cells.{plane_of, IsCell, is_positive, cells_with}
+use Rattle.cover_cells.specs.Splitting.{number_if}
 use Rattle.cover_cells.proofs.halves.halves.Given as goal
 
 abbrev pub invariant-loop-cell : goal.invariant-loop-cell

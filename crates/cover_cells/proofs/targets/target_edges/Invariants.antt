@@ -1,4 +1,4 @@
-use Rattle.cover_cells.specs.Cells.{AreTargetEdges}
+use Rattle.cover_cells.specs.Splitting.{AreTargetEdges}
 use Rattle.cover_cells.proofs.targets.target_edges.Given as goal
 
 abbrev pub invariant-loop-t : goal.invariant-loop-t

@@ -1,8 +1,7 @@
-use Rattle.std.proofs.Common.{Some, Err, refl, sym, ap, subst, inl}
-use Rattle.vec_exact.specs.declared.RawMesh.{RawMesh}
+use Rattle.std.proofs.Common.{Some, Err, refl, ap, inl}
 use Rattle.command_line.specs.declared.choices.Chosen.TheVariants.{Ico}
 use Rattle.tempest_top.specs.Scene.{scene}
-use Rattle.tempest_top.specs.Outcome.{IsOutcome, IsOutcomeOfMade, mesh_written}
+use Rattle.tempest_top.specs.Outcome.{IsOutcome}
 use Rattle.tempest_top.specs.Promises.{IsMadeText}
 use Rattle.tempest_top.proofs.Outcomes.{accepted_made}
 use Rattle.tempest_top.proofs.Endings.{comes_mesh, comes_unmade}
