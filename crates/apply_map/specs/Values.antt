@@ -1,6 +1,7 @@
 -- The values of a field, which are whole numbers of 32 bits.
-use Rattle.std.specs.Prelude.{◌≡◌, ◌≢◌, ℕ, ◌-◌, ◌<◌, ◌≤◌, length, slice_index_or, ℤ, pos, negsuc, ◌≤ℤ◌, ◌*ℤ◌, ◌+◌, ◌*◌, List}
+use Rattle.std.specs.Prelude.{◌≡◌, ◌≢◌, ℕ, ◌-◌, ◌<◌, ◌≤◌, length, slice_index_or, ℤ, pos, negsuc, ◌≤ℤ◌, ◌*ℤ◌, ◌+ℤ◌, ◌+◌, ◌*◌, List}
 use Rattle.map_rows.specs.declared.rows.MapRow.{MapRow}
+use Rattle.map_rows.specs.Application.{sum_over, value_at, area_at}
 
 -- fits 32 bits with sign
 abbrev pub IsInt32 : ℤ → Type 0
@@ -29,3 +30,12 @@ pub record IsFirstAt (values : List ℤ) (x : ℤ) (place : ℕ) : Type 0 where
 abbrev pub HasRestsWithin : List ℤ → ℕ → List ℤ → Type 0
 HasRestsWithin areas slice rest =
     (k : ℕ) → k < length areas → (pos 0 ≤ℤ slice_index_or rest (slice * length areas + k) (pos 0)) × (slice_index_or rest (slice * length areas + k) (pos 0) ≤ℤ slice_index_or areas k (pos 0))
+
+-- the sum of area times value over the faces of this slice
+abbrev pub slice_mass_of : List ℤ → List ℤ → ℕ → ℤ
+slice_mass_of areas values slice = sum_over 1 (length areas) (λ (i : ℕ). area_at areas i *ℤ value_at values (length areas) slice i)
+
+-- the sum of area times whole part plus rest over the faces of this slice
+abbrev pub field_slice_mass_of : List ℤ → List ℤ → List ℤ → ℕ → ℤ
+field_slice_mass_of areas whole rest slice =
+    sum_over 1 (length areas) (λ (j : ℕ). (area_at areas j *ℤ value_at whole (length areas) slice j) +ℤ value_at rest (length areas) slice j)

@@ -21,8 +21,10 @@ fn target_share(rows: &[MapRow], area: i64, first: usize, values: &[i32]) -> Sha
     requires values { All (HasValue values.now first) rows.now }
     requires area { area ≡ total (map measure_of rows.now) }
     requires covered { pos 1 ≤ℤ area }
-    ensures whole { result.whole ≡ (divided (total (map (carried values.now first) rows.now)) area).whole }
-    ensures rest { result.rest ≡ (divided (total (map (carried values.now first) rows.now)) area).rest }
+    ensures whole { result.whole
+        ≡ (divided (total (map (carried values.now first) rows.now)) area).whole }
+    ensures rest { result.rest
+        ≡ (divided (total (map (carried values.now first) rows.now)) area).rest }
 {
     share_of(weighted_sum(rows, first, values), area)
 }
@@ -38,8 +40,10 @@ fn append_slice(
 ) -> Result<(), ApplyFault>
     requires values { (slice + 1) * map.now.n_a ≤ length values.now }
     requires rows { by_target.now ≡ groups_of map.now.n_b map.now.rows }
-    ensures whole { OnOk result (whole.new.items ≡ whole.old.items ++ wholes_of (slice_of map.now values.now slice)) }
-    ensures rest { OnOk result (rest.new.items ≡ rest.old.items ++ rests_of (slice_of map.now values.now slice)) }
+    ensures whole { OnOk result (whole.new.items ≡ whole.old.items
+        ++ wholes_of (slice_of map.now values.now slice)) }
+    ensures rest { OnOk result (rest.new.items ≡ rest.old.items
+        ++ rests_of (slice_of map.now values.now slice)) }
     ensures fault { IfErr result (λ fault. fault ≡ NoMemoryFault) }
 {
     let first = slice as usize * map.n_a as usize;
@@ -60,13 +64,17 @@ fn append_slice(
 /// `Length` comes exactly where there is not a value for each source face of each slice, and
 /// `NoMemory` only where there is. Beside the field it takes memory for a copy of the rows.
 pub fn apply(alloc: Global, map: &Map, slices: u32, values: &[i32]) -> Result<Field, ApplyFault>
-    ensures field { IfOk result (λ field. field ≡ field_of (application_of map.now slices values.now)) }
+    ensures field { IfOk result (λ field.
+        field ≡ field_of (application_of map.now slices values.now)) }
     ensures counts { OnOk result (length values.now ≡ slices * map.now.n_a) }
-    ensures masses { IfOk result (λ field. target_mass_of map.now slices field.whole field.rest ≡ source_mass_of map.now slices values.now) }
+    ensures masses { IfOk result (λ field. target_mass_of map.now slices field.whole field.rest
+        ≡ source_mass_of map.now slices values.now) }
     // where all sources of a target hold one number, so does the target, with rest 0
-    ensures constants { IfOk result (λ field. KeepsConstants map.now slices values.now field.whole field.rest) }
+    ensures constants { IfOk result (λ field. KeepsConstants map.now slices values.now
+        field.whole field.rest) }
     // what a target gets is between the numbers of its sources
-    ensures bounds { IfOk result (λ field. KeepsBounds map.now slices values.now field.whole field.rest) }
+    ensures bounds { IfOk result (λ field. KeepsBounds map.now slices values.now
+        field.whole field.rest) }
     ensures rests { IfOk result (λ field. IsFieldOf map.now slices field.whole field.rest) }
     ensures fault { IfErr result (IsApplyFaultOf map.now slices values.now) }
 {

@@ -1,9 +1,9 @@
 // The masses of fields.
 ghost use Rattle.std.specs.Prelude.{◌≡◌, ℕ, ◌+◌, ◌*◌, ◌≤◌, ◌^◌, pos, ◌+ℤ◌, ◌*ℤ◌, ◌≤ℤ◌, ◌<ℤ◌, unsigned_abs, All, length};
 ghost use Rattle.map_rows.specs.Maps.{total};
-ghost use Rattle.map_rows.specs.Application.{sum_over, area_at, value_at, source_mass_of, target_mass_of};
+ghost use Rattle.map_rows.specs.Application.{source_mass_of, target_mass_of};
 ghost use Rattle.map_rows.specs.Laws.{IsFieldOf};
-ghost use Rattle.apply_map.specs.Values.{HasRestsWithin};
+ghost use Rattle.apply_map.specs.Values.{HasRestsWithin, slice_mass_of, field_slice_mass_of};
 
 use crate::Field;
 use map_rows::{Map, product};
@@ -13,7 +13,7 @@ fn slice_mass(areas: &[i64], slice: u32, values: &[i32]) -> i128
     requires counts { (slice + 1) * length areas.now ≤ length values.now }
     requires areas { All (λ area. pos 0 ≤ℤ area) areas.now }
     requires fit { total areas.now <ℤ pos (2 ^ 63) }
-    ensures value { result ≡ sum_over 1 (length areas.now) (λ (i : ℕ). area_at areas.now i *ℤ value_at values.now (length areas.now) slice i) }
+    ensures value { result ≡ slice_mass_of areas.now values.now slice }
     ensures size { unsigned_abs result ≤ 2 ^ 94 }
 {
     let first = slice as usize * areas.len();
@@ -47,15 +47,15 @@ fn target_part(area: i64, whole: i32, rest: i64) -> i128
     product(area, whole) + i128::from(rest)
 }
 
-/// The sum of area times whole part plus rest over the targets of one slice, which counts from 0. It
-/// is at most 2^94 in size.
+/// The sum of area times whole part plus rest over the targets of one slice, which counts from 0.
+/// It is at most 2^94 in size.
 pub fn mass_of_slice(areas: &[i64], slice: u32, whole: &[i32], rest: &[i64]) -> i128
     requires whole { (slice + 1) * length areas.now ≤ length whole.now }
     requires rest { (slice + 1) * length areas.now ≤ length rest.now }
     requires areas { All (λ area. pos 0 ≤ℤ area) areas.now }
     requires fit { total areas.now <ℤ pos (2 ^ 63) }
     requires rests { HasRestsWithin areas.now slice rest.now }
-    ensures value { result ≡ sum_over 1 (length areas.now) (λ (j : ℕ). (area_at areas.now j *ℤ value_at whole.now (length areas.now) slice j) +ℤ value_at rest.now (length areas.now) slice j) }
+    ensures value { result ≡ field_slice_mass_of areas.now whole.now rest.now slice }
     ensures size { unsigned_abs result ≤ 2 ^ 94 }
 {
     let first = slice as usize * areas.len();

@@ -30,9 +30,12 @@ fn append_slice(
 ) -> Result<(), MaskFault>
     requires values { (slice + 1) * map.now.n_a ≤ length values.now }
     requires rows { by_target.now ≡ groups_of map.now.n_b map.now.rows }
-    ensures whole { OnOk result (columns.new.whole.items ≡ columns.old.whole.items ++ map_over masked_whole (masked_slice_of map.now fill values.now slice)) }
-    ensures rest { OnOk result (columns.new.rest.items ≡ columns.old.rest.items ++ map_over masked_rest (masked_slice_of map.now fill values.now slice)) }
-    ensures part { OnOk result (columns.new.part.items ≡ columns.old.part.items ++ map_over masked_part (masked_slice_of map.now fill values.now slice)) }
+    ensures whole { OnOk result (columns.new.whole.items ≡ columns.old.whole.items
+        ++ map_over masked_whole (masked_slice_of map.now fill values.now slice)) }
+    ensures rest { OnOk result (columns.new.rest.items ≡ columns.old.rest.items
+        ++ map_over masked_rest (masked_slice_of map.now fill values.now slice)) }
+    ensures part { OnOk result (columns.new.part.items ≡ columns.old.part.items
+        ++ map_over masked_part (masked_slice_of map.now fill values.now slice)) }
     ensures fault { IfErr result (λ fault. fault ≡ NoMemoryFault) }
 {
     let first = slice as usize * map.n_a as usize;
@@ -62,16 +65,21 @@ pub fn apply_masked(
     values: &[i32],
     fill: Option<i32>,
 ) -> Result<MaskedField, MaskFault>
-    ensures field { IfOk result (λ field. field ≡ masked_field_of (masked_application_of map.now slices fill values.now)) }
+    ensures field { IfOk result (λ field.
+        field ≡ masked_field_of (masked_application_of map.now slices fill values.now)) }
     ensures counts { OnOk result (length values.now ≡ slices * map.now.n_a) }
-    ensures masses { IfOk result (λ field. part_mass_of map.now slices field ≡ present_mass_of map.now slices fill values.now) }
+    ensures masses { IfOk result (λ field. part_mass_of map.now slices field
+        ≡ present_mass_of map.now slices fill values.now) }
     // where all present sources of a target hold one number, so does the target, with rest 0
-    ensures constants { IfOk result (λ field. KeepsPresentConstants map.now slices fill values.now field) }
+    ensures constants { IfOk result (λ field.
+        KeepsPresentConstants map.now slices fill values.now field) }
     // what a target gets is between the numbers of its present sources
-    ensures bounds { IfOk result (λ field. KeepsPresentBounds map.now slices fill values.now field) }
+    ensures bounds { IfOk result (λ field.
+        KeepsPresentBounds map.now slices fill values.now field) }
     ensures parts { IfOk result (λ field. IsMaskedFieldOf map.now slices field) }
     // where no value is absent, the field is the plain one
-    ensures plain { IfOk result (λ field. IsPlainWithoutAbsent map.now slices fill values.now field) }
+    ensures plain { IfOk result (λ field.
+        IsPlainWithoutAbsent map.now slices fill values.now field) }
     ensures fault { IfErr result (IsMaskFaultOf map.now slices values.now) }
 {
     if values.len() as u64 != u64::from(slices) * u64::from(map.n_a) {

@@ -1,8 +1,8 @@
 // The masses of fields in which values may be absent.
 ghost use Rattle.std.specs.Prelude.{◌≡◌, ℕ, ◌+◌, ◌*◌, ◌≤◌, ◌^◌, pos, ◌+ℤ◌, ◌*ℤ◌, ◌≤ℤ◌, ◌<ℤ◌, unsigned_abs, All, length, slice_range};
 ghost use Rattle.map_rows.specs.Maps.{total};
-ghost use Rattle.map_rows.specs.Application.{sum_over, area_at, value_at};
 ghost use Rattle.field_mask.specs.Masked.{present_product as present_product_of, present_mass_of, part_mass_of};
+ghost use Rattle.field_mask.specs.Present.{present_slice_mass_of};
 ghost use Rattle.field_mask.specs.Laws.{IsMaskedFieldOf};
 
 use crate::MaskedField;
@@ -27,7 +27,7 @@ fn slice_mass(areas: &[i64], slice: u32, values: &[i32], fill: Option<i32>) -> i
     requires counts { (slice + 1) * length areas.now ≤ length values.now }
     requires areas { All (λ area. pos 0 ≤ℤ area) areas.now }
     requires fit { total areas.now <ℤ pos (2 ^ 63) }
-    ensures value { result ≡ sum_over 1 (length areas.now) (λ (i : ℕ). present_product_of fill (area_at areas.now i) (value_at values.now (length areas.now) slice i)) }
+    ensures value { result ≡ present_slice_mass_of fill areas.now values.now slice }
     ensures size { unsigned_abs result ≤ 2 ^ 94 }
 {
     let first = slice as usize * areas.len();
@@ -60,8 +60,8 @@ fn parts_of_slice(parts: &[i64], first: usize, count: usize) -> &[i64]
     &parts[first..first + count]
 }
 
-/// The sum of part times whole part plus rest over all targets of all slices, which is below 2^127 in
-/// size.
+/// The sum of part times whole part plus rest over all targets of all slices, which is below 2^127
+/// in size.
 pub fn part_mass(map: &Map, slices: u32, field: &MaskedField) -> i128
     requires { IsMaskedFieldOf map.now slices field.now }
     ensures { result ≡ part_mass_of map.now slices field.now }

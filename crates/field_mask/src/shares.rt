@@ -3,7 +3,7 @@ ghost use Rattle.std.specs.Prelude.{◌≡◌, ◌≤◌, ◌<◌, ◌^◌, pos,
 ghost use Rattle.map_rows.specs.Maps.{total, measure_of, HasMeasure};
 ghost use Rattle.apply_map.specs.Values.{HasValue, carried};
 ghost use Rattle.field_mask.specs.Masked.{is_absent as is_absent_of, fill_or_zero, masked_share};
-ghost use Rattle.field_mask.specs.Present.{is_present_at};
+ghost use Rattle.field_mask.specs.Present.{present_of};
 
 use map_rows::{MapRow, product, share_of};
 
@@ -55,8 +55,10 @@ pub fn present_sums(rows: &[MapRow], first: usize, values: &[i32], fill: Option<
     requires count { length rows.now ≤ 8388608 }
     requires measures { All HasMeasure rows.now }
     requires values { All (HasValue values.now first) rows.now }
-    ensures part { result.part ≡ total (map measure_of (filter (is_present_at fill values.now first) rows.now)) }
-    ensures sum { result.sum ≡ total (map (carried values.now first) (filter (is_present_at fill values.now first) rows.now)) }
+    ensures part { result.part
+        ≡ total (map measure_of (present_of fill values.now first rows.now)) }
+    ensures sum { result.sum
+        ≡ total (map (carried values.now first) (present_of fill values.now first rows.now)) }
     ensures nonneg { pos 0 ≤ℤ result.part }
     ensures least { (result.part *ℤ negsuc 2147483647) ≤ℤ result.sum }
     ensures greatest { result.sum ≤ℤ (result.part *ℤ pos 2147483647) }

@@ -1,5 +1,5 @@
-// Worked fields with absent values over a map of two rows: sources 1 and 2, with measures 1 and 2, lie
-// in one target.
+// Worked fields with absent values over a map of two rows: sources 1 and 2, with measures 1 and 2,
+// lie in one target.
 use super::*;
 use map_rows::{Map, MapRow, MapRows};
 use std::alloc::{AllocError, Global};

@@ -23,8 +23,8 @@ fn add_measure(areas: &mut [i64], face: u32, measure: i64)
     areas[face as usize - 1] += measure;
 }
 
-/// The areas of `n_a` source faces and of `n_b` target faces: the sums of the measures of their rows,
-/// of which there are at most 8,388,608. One pass over the rows.
+/// The areas of `n_a` source faces and of `n_b` target faces: the sums of the measures of their
+/// rows, of which there are at most 8,388,608. One pass over the rows.
 pub fn areas_of_rows(
     alloc: Global,
     n_a: u32,

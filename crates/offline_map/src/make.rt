@@ -43,7 +43,8 @@ fn map_of_pieces(alloc: Global, a: &Mesh, b: &Mesh, pieces: &[Piece]) -> Result<
     requires { IsSoundOverlap (overlap_of a.now b.now pieces.now) }
     ensures map { IfOk result (λ map. map ≡ map_of (overlap_of a.now b.now pieces.now)) }
     ensures accepted { OnOk result (IsMappable a.now b.now (overlap_of a.now b.now pieces.now)) }
-    ensures fault { IfErr result (λ fault. fault ≢ MapNoMemory → IsMapFaultOf a.now b.now (overlap_of a.now b.now pieces.now) fault) }
+    ensures fault { IfErr result (λ fault. fault ≢ MapNoMemory
+        → IsMapFaultOf a.now b.now (overlap_of a.now b.now pieces.now) fault) }
 {
     let n_a = face_count(a);
     let n_b = face_count(b);
@@ -64,19 +65,21 @@ fn map_of_pieces(alloc: Global, a: &Mesh, b: &Mesh, pieces: &[Piece]) -> Result<
 }
 
 /// The map of the pieces of `overlap`, which is one of `a` and `b`: a row for each piece, whose
-/// measure is that of its corners, and the areas of the faces as the sums of their rows. No piece is
-/// trusted; whether all pairs of faces that meet are listed is not looked at.
+/// measure is that of its corners, and the areas of the faces as the sums of their rows. No piece
+/// is trusted; whether all pairs of faces that meet are listed is not looked at.
 ///
-/// A fault is the first one: the source count of the overlap is not that of `a`; the target count is
-/// not that of `b`; then, at the pieces in their order, a ring that is not the ring of its two faces,
-/// or corners that are not the grid corners of that ring; then the least target face without a
-/// piece. `NoMemory` may come in place of any answer.
+/// A fault is the first one: the source count of the overlap is not that of `a`; the target count
+/// is not that of `b`; then, at the pieces in their order, a ring that is not the ring of its two
+/// faces, or corners that are not the grid corners of that ring; then the least target face without
+/// a piece. `NoMemory` may come in place of any answer.
 pub fn make_map(alloc: Global, a: &Mesh, b: &Mesh, overlap: &Overlap) -> Result<Map, MapFault>
     ensures map { IfOk result (λ map. map ≡ map_of overlap.now) }
     ensures accepted { OnOk result (IsMappable a.now b.now overlap.now) }
-    ensures fault { IfErr result (λ fault. fault ≢ MapNoMemory → IsMapFaultOf a.now b.now overlap.now fault) }
+    ensures fault { IfErr result (λ fault. fault ≢ MapNoMemory
+        → IsMapFaultOf a.now b.now overlap.now fault) }
     // and where there is a fault, no map comes, and no other fault
-    ensures refused { (fault : FirstFault) → IsMapFaultOf a.now b.now overlap.now fault → (result ≡ Err fault) ⊎ (result ≡ Err MapNoMemory) }
+    ensures refused { (fault : FirstFault) → IsMapFaultOf a.now b.now overlap.now fault
+        → (result ≡ Err fault) ⊎ (result ≡ Err MapNoMemory) }
 {
     check_counts(a, b, overlap)?;
     map_of_pieces(alloc, a, b, &overlap.pieces.items)

@@ -22,10 +22,12 @@ fn are_grid_corners(planes: &PlaneList, ring: &Ring, corners: &[[i32; 3]]) -> bo
     requires numbers { AreNumbers planes.now.items ring.now.items }
     requires size { EachIs37 planes.now.items (length planes.now.items) }
     requires nonzero { (t : ℕ) → t < length ring.now.items
-        → corner_of (length ring.now.items) (listed planes.now.items ring.now.items) t ≢ zero_triple }
+        → corner_of (length ring.now.items) (listed planes.now.items ring.now.items) t
+        ≢ zero_triple }
     requires count { length corners.now ≡ length ring.now.items }
     requires few { length ring.now.items ≤ 32 }
-    ensures exactly { IsTrue result ↔ (corners.now ≡ grid_corners_of (length ring.now.items) (listed planes.now.items ring.now.items)) }
+    ensures exactly { IsTrue result ↔ (corners.now
+        ≡ grid_corners_of (length ring.now.items) (listed planes.now.items ring.now.items)) }
     ensures on_grid { IsTrue result → All IsOnGrid corners.now }
 {
     for (t, triple) in corners.iter().enumerate() {
