@@ -80,7 +80,8 @@ pub fn make(alloc: Global, n: u32, dual: bool) -> Result<Mesh, GenFault>
     ensures fault { (fault : MeshFault) → result ≡ Err (FaultOfMesh fault)
         → (raw : RawMesh) × IsMade n dual raw × IsFirstMeshFault raw fault }
     ensures outer { result ≡ Err (FaultOfMesh MeshNoMemory) → ⊥ }
-    ensures refused { (raw : RawMesh) (fault : MeshFault) → IsMade n dual raw → IsFirstMeshFault raw fault
+    ensures refused { (raw : RawMesh) (fault : MeshFault) → IsMade n dual raw
+        → IsFirstMeshFault raw fault
         → (result ≡ Err (FaultOfMesh fault)) ⊎ (result ≡ Err NoMemory) }
 {
     let raw = raw_mesh(alloc, n, dual)?;
