@@ -144,9 +144,6 @@ fn an_empty_file_is_read(rt: HostRuntime) -> Result<(), Fail> {
     assert_eq!(rt; row.go(&rt, rt.alloc(), WORDS)?, Status::ReadFault);
     row.renew_sinks(rt.alloc());
     assert_eq!(rt; row.go(&rt, rt.alloc(), WORDS)?, Status::Format);
-    assert_eq!(rt;
-        row.err.bytes(),
-        b"tempest: a.g: not netCDF\n".as_slice()
-    );
+    assert_eq!(rt; row.err.bytes(), b"tempest: a.g: not netCDF\n".as_slice());
     Ok(())
 }

@@ -33,4 +33,4 @@ returns-clause-kept g c =
     let second = c.in-Ok-mesh_of.ensures in
     keeps (Some (Coverage c.args.a.now c.args.b.now)) before after _ refl
     (comes_both IsOutcomeOfCoverage NoText None c.args.a.now c.args.b.now before (g.F.Files.seen c.mesh_of.new.files) (g.F.Files.seen c.mesh_of-2.new.files) after c.in-Ok.mesh c.in-Ok-mesh_of.mesh _ first.mesh first.reads first.asked second.mesh second.reads second.asked
-    c.tell_coverage.ensures.comes (g.F.Files.seen c.mesh_of-2.new.files))
+    (c.tell_coverage.ensures.comes (g.F.Files.seen c.mesh_of-2.new.files)))
