@@ -90,14 +90,16 @@ pub(crate) fn mesh_of_equal_faces(
     Ok(file)
 }
 
-/// A run over three small meshes of one face: an octant, the opposite octant, and a face of sixteen
-/// corners.
+/// A run over small meshes: an octant, the opposite octant, a face of sixteen corners, and the octant
+/// listed twice.
 pub(crate) fn with_small_meshes(alloc: Global) -> Result<Run, Fail> {
     let mut row = Run::new(alloc);
     let octant = mesh_of_equal_faces(alloc, &OCTANT, &[1, 2, 3], 1)?;
     let opposite = mesh_of_equal_faces(alloc, &OPPOSITE, &[1, 3, 2], 1)?;
     let sixteen = mesh_of_equal_faces(alloc, &SIXTEEN, &TO_SIXTEEN, 1)?;
+    let twice = mesh_of_equal_faces(alloc, &OCTANT, &[1, 2, 3], 2)?;
     row.place("octant.g", &octant)?;
+    row.place("twice.g", &twice)?;
     row.place("opposite.g", &opposite)?;
     row.place("sixteen.g", &sixteen)?;
     Ok(row)

@@ -136,7 +136,7 @@ own_usage (Some (OfflineMap in_mesh out_mesh ov_mesh out_map)) text h = refl
 own_usage (Some (Apply map var in_data out_data masked)) text h = refl
 own_usage (Some (SelfRun n workers)) text h = refl
 own_usage (Some (Coverage a b)) text h = absurd h
-own_usage (Some (Check file workers)) text h = refl
+own_usage (Some (Check file workers)) text h = absurd (let e = h.0 in cc)
 
 text_usage : (chosen : Option Chosen) (m : Option Folder) (text : List ℕ) → IsText chosen m text Usage → is_usage chosen ≡ true
 text_usage chosen m text (inl h) = absurd (input_usage h.0 text h.2)
@@ -264,7 +264,7 @@ usage_text (Some (OfflineMap in_mesh out_mesh ov_mesh out_map)) h = (refl, refl)
 usage_text (Some (Apply map var in_data out_data masked)) h = (refl, refl)
 usage_text (Some (SelfRun n workers)) h = (refl, refl)
 usage_text (Some (Coverage a b)) h = absurd cc
-usage_text (Some (Check file workers)) h = (refl, refl)
+usage_text (Some (Check file workers)) h = absurd cc
 
 pub keeps_usage : (chosen : Option Chosen) (before after : Scene) (status : Status) → is_usage chosen ≡ true → after.files ≡ before.files → after.out ≡ before.out → status ≡ Usage → PutsText before.err after.err (codes "usage") → Keeps chosen before after status
 keeps_usage chosen before after status asked files out is put =

@@ -14,12 +14,14 @@ use Rattle.remap_files.specs.OverlapDocument.{overlap_document}
 use Rattle.gen_ico.proofs.One.{one_made as one_icosahedral}
 use Rattle.cover_check.specs.declared.counting.CoverCount.{CoverCount}
 use Rattle.cover_check.proofs.OneCount.{one_cover_count}
+use Rattle.mesh_partition.specs.declared.reporting.MeshReport.{MeshReport}
+use Rattle.mesh_partition.proofs.OneReport.{one_mesh_report}
 use Rattle.command_line.specs.declared.choices.Chosen.{Chosen}
 use Rattle.command_line.specs.declared.choices.Chosen.TheVariants.{Cs, Rll, Ico, Overlap, OfflineMap, Apply, SelfRun, Coverage, Check}
 use Rattle.tempest_top.specs.declared.status.Status.TheVariants.{Limit}
-use Rattle.tempest_top.specs.Lines.{pieces_text, coverage_text}
+use Rattle.tempest_top.specs.Lines.{pieces_text, coverage_text, report_text}
 use Rattle.tempest_top.specs.Faults.{FileWords, status_of, text_of, mesh_words, too_many_pieces_text}
-use Rattle.tempest_top.specs.Outcome.{Outcome, IsOutcome, IsOutcomeOfMade, IsOutcomeOfDocument, IsOutcomeOfPair, IsOutcomeOfCoverage, AfterFile, text_alone, refusal, fault_of_made, mesh_written, is_usage, usage}
+use Rattle.tempest_top.specs.Outcome.{Outcome, IsOutcome, IsOutcomeOfMade, IsOutcomeOfDocument, IsOutcomeOfPair, IsOutcomeOfCoverage, IsOutcomeOfReport, AfterFile, text_alone, refusal, fault_of_made, mesh_written, is_usage, usage}
 use Rattle.tempest_top.proofs.OnePair.{one_count, one_overlap, count_of_overlap}
 
 -- what two outcomes are equal to
@@ -56,6 +58,16 @@ one_coverage : (source target : RawMesh) (m : Option Folder) (o p : Outcome) →
 one_coverage source target m o p a b =
     a.2 ∙ ap (λ (count : CoverCount). text_alone (coverage_text (length target.faces) count) m) (one_cover_count source target a.0 b.0 a.1 b.1) ∙ sym b.2
 
+-- and so is what there is to tell of a mesh
+one_report : (mesh : RawMesh) (m : Option Folder) (o p : Outcome) → IsOutcomeOfReport mesh m o → IsOutcomeOfReport mesh m p → o ≡ p
+one_report mesh m o p (inl a) (inl b) = a.3 ∙ ap (λ (n : ℕ). refusal Limit (too_many_pieces_text n) m) (one_count mesh mesh a.0 b.0 a.1 b.1) ∙ sym b.3
+one_report mesh m o p (inl a) (inr b) = absurd (omega (arith, a.2, b.0 a.0 a.1))
+one_report mesh m o p (inr a) (inl b) = absurd (omega (arith, b.2, a.0 b.0 b.1))
+one_report mesh m o p (inr a) (inr b) =
+    let (r, is, e) = a.1 in
+    let (s, right, f) = b.1 in
+    e ∙ ap (λ (report : MeshReport). text_alone (report_text (length mesh.faces) report) m) (one_mesh_report mesh r s is right) ∙ sym f
+
 -- and so has what follows a file, where what follows its content has
 pub one_after : {A C : Type 0} (words : FileWords A C) → IsLawful words.kind → (m : Option Folder) (file : List ℕ) (next : A → Outcome → Type 0) → ((content : A) (o p : Outcome) → next content o → next content p → o ≡ p)
     → (o p : Outcome) → AfterFile words m file next o → AfterFile words m file next p → o ≡ p
@@ -80,7 +92,7 @@ one_outcome (Some (SelfRun n workers)) m o p e f = same o p _ e f
 one_outcome (Some (Coverage a b)) m o p e f =
     one_after mesh_words mesh_law m a (λ source. AfterFile mesh_words m b (λ target. IsOutcomeOfCoverage source target m))
     (λ source. one_after mesh_words mesh_law m b (λ target. IsOutcomeOfCoverage source target m) (λ target. one_coverage source target m)) o p e f
-one_outcome (Some (Check file workers)) m o p e f = same o p _ e f
+one_outcome (Some (Check file workers)) m o p e f = one_after mesh_words mesh_law m file (λ mesh. IsOutcomeOfReport mesh m) (λ mesh. one_report mesh m) o p e f
 
 -- a mesh that is accepted is written
 pub accepted_made : (raw : RawMesh) (file : List ℕ) (m : Option Folder) → IsAcceptedMesh raw → IsOutcomeOfMade raw file m (mesh_written raw file m)
@@ -97,4 +109,4 @@ usage_outcome (Some (OfflineMap in_mesh out_mesh ov_mesh out_map)) m h = refl
 usage_outcome (Some (Apply map var in_data out_data masked)) m h = refl
 usage_outcome (Some (SelfRun n workers)) m h = refl
 usage_outcome (Some (Coverage a b)) m h = absurd cc
-usage_outcome (Some (Check file workers)) m h = refl
+usage_outcome (Some (Check file workers)) m h = absurd cc

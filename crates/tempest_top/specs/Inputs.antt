@@ -46,7 +46,7 @@ inputs_of (Some (OfflineMap in_mesh out_mesh ov_mesh out_map)) = []
 inputs_of (Some (Apply map var in_data out_data masked)) = []
 inputs_of (Some (SelfRun n workers)) = []
 inputs_of (Some (Coverage a b)) = MeshFile a ∷ MeshFile b ∷ []
-inputs_of (Some (Check file workers)) = []
+inputs_of (Some (Check file workers)) = MeshFile file ∷ []
 
 -- the name of the output file of a command that has one
 abbrev pub output_of : Option Chosen → Option (List ℕ)

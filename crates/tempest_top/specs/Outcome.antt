@@ -19,11 +19,13 @@ use Rattle.overlap_run.specs.Whole.{IsOverlapOf}
 use Rattle.remap_files.specs.OverlapDocument.{overlap_document}
 use Rattle.cover_check.specs.declared.counting.CoverCount.{CoverCount}
 use Rattle.cover_check.specs.CoveredTargets.{IsCoverCount}
+use Rattle.mesh_partition.specs.declared.reporting.MeshReport.{MeshReport}
+use Rattle.mesh_partition.specs.MeshReport.{IsMeshReportOf}
 use Rattle.command_line.specs.declared.choices.Chosen.{Chosen}
 use Rattle.command_line.specs.declared.choices.Chosen.TheVariants.{Cs, Rll, Ico, Overlap, OfflineMap, Apply, SelfRun, Coverage, Check}
 use Rattle.tempest_top.specs.declared.status.Status.{Status}
 use Rattle.tempest_top.specs.declared.status.Status.TheVariants.{Done, Usage, Mesh, Limit}
-use Rattle.tempest_top.specs.Lines.{mesh_text, pieces_text, coverage_text, line_of}
+use Rattle.tempest_top.specs.Lines.{mesh_text, pieces_text, coverage_text, report_text, line_of}
 use Rattle.tempest_top.specs.Faults.{FileWords, status_of, text_of, mesh_words, mesh_fault_text, length_text, too_many_pieces_text}
 use Rattle.tempest_top.specs.Inputs.{inputs_of, AreTold}
 
@@ -94,6 +96,12 @@ IsOutcomeOfPair source target file m o =
 abbrev pub IsOutcomeOfCoverage : RawMesh → RawMesh → Option Folder → Outcome → Type 0
 IsOutcomeOfCoverage source target m o = (count : CoverCount) × IsCoverCount source target count × (o ≡ text_alone (coverage_text (length target.faces) count) m)
 
+-- The report on a mesh is told, unless more than 8,388,608 pairs of its faces meet.
+abbrev pub IsOutcomeOfReport : RawMesh → Option Folder → Outcome → Type 0
+IsOutcomeOfReport mesh m o =
+    ((n : ℕ) × IsPairCount mesh mesh n × (8388608 < n) × (o ≡ refusal Limit (too_many_pieces_text n) m))
+    ⊎ (((n : ℕ) → IsPairCount mesh mesh n → n ≤ 8388608) × ((report : MeshReport) × IsMeshReportOf mesh report × (o ≡ text_alone (report_text (length mesh.faces) report) m)))
+
 -- the words are out of the grammar, or name a command that the program doesn't have yet
 abbrev pub is_usage : Option Chosen → Bool
 is_usage None = true
@@ -105,7 +113,7 @@ is_usage (Some (OfflineMap in_mesh out_mesh ov_mesh out_map)) = true
 is_usage (Some (Apply map var in_data out_data masked)) = true
 is_usage (Some (SelfRun n workers)) = true
 is_usage (Some (Coverage a b)) = false
-is_usage (Some (Check file workers)) = true
+is_usage (Some (Check file workers)) = false
 
 -- they are refused
 abbrev pub usage : Option Folder → Outcome
@@ -123,7 +131,7 @@ IsOutcome (Some (OfflineMap in_mesh out_mesh ov_mesh out_map)) m o = o ≡ usage
 IsOutcome (Some (Apply map var in_data out_data masked)) m o = o ≡ usage m
 IsOutcome (Some (SelfRun n workers)) m o = o ≡ usage m
 IsOutcome (Some (Coverage a b)) m o = AfterFile mesh_words m a (λ source. AfterFile mesh_words m b (λ target. IsOutcomeOfCoverage source target m)) o
-IsOutcome (Some (Check file workers)) m o = o ≡ usage m
+IsOutcome (Some (Check file workers)) m o = AfterFile mesh_words m file (λ mesh. IsOutcomeOfReport mesh m) o
 
 -- There is an outcome with this, and no other outcome. Of a command with input files it is said only where the folder is told.
 abbrev pub TheOutcome : Option Chosen → Option Folder → (Outcome → Type 0) → Type 0

@@ -90,7 +90,7 @@ IsOwnText (Some (OfflineMap in_mesh out_mesh ov_mesh out_map)) text status = IsU
 IsOwnText (Some (Apply map var in_data out_data masked)) text status = IsUsageText text status
 IsOwnText (Some (SelfRun n workers)) text status = IsUsageText text status
 IsOwnText (Some (Coverage a b)) text status = ⊥
-IsOwnText (Some (Check file workers)) text status = IsUsageText text status
+IsOwnText (Some (Check file workers)) text status = IsPiecesText text status
 
 -- a text of this status: the refusal of an input file that is dealt with, or one of these texts
 abbrev pub IsTextOf : List Input → (List ℕ → Status → Type 0) → Option Folder → List ℕ → Status → Type 0

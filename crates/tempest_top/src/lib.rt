@@ -9,6 +9,7 @@ mod inputs;
 mod laws;
 mod lines;
 mod pairs;
+mod report;
 mod status;
 mod top;
 

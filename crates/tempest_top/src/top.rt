@@ -13,6 +13,7 @@ use crate::cover::check_coverage;
 use crate::finish::{refuse_memory, refuse_usage};
 use crate::generate::{generate_cs, generate_ico, generate_rll};
 use crate::pairs::generate_overlap;
+use crate::report::check_mesh;
 use command_line::{Chosen, OptFault, options};
 use remap_io::{Files, Sink};
 use std::alloc::Global;
@@ -49,7 +50,9 @@ fn run_chosen<R: Threads, F: Files, O: Sink, E: Sink>(
         Chosen::Apply { .. } => refuse_usage(err),
         Chosen::SelfRun { .. } => refuse_usage(err),
         Chosen::Coverage { a, b } => check_coverage(alloc, &a, &b, files, out, err),
-        Chosen::Check { .. } => refuse_usage(err),
+        Chosen::Check { file, workers } => {
+            check_mesh(rt, alloc, &file, workers, files, out, err)
+        }
     }
 }
 

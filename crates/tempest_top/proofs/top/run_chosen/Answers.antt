@@ -14,7 +14,3 @@ returns-in-Apply-clause-kept g c =
 pub returns-in-SelfRun-clause-kept : goal.returns-in-SelfRun-clause-kept
 returns-in-SelfRun-clause-kept g c =
     keeps_usage (Some c.args.chosen) (scene (g.F.Files.seen c.args.files.now) (g.O.Sink.seen c.args.out.now) (g.E.Sink.seen c.args.err.now)) (scene (g.F.Files.seen c.args.files.now) (g.O.Sink.seen c.args.out.now) (g.E.Sink.seen c.refuse_usage-in-SelfRun.new.err)) _ (search rules) refl refl c.refuse_usage-in-SelfRun.ensures.status c.refuse_usage-in-SelfRun.ensures.line
-
-pub returns-clause-kept : goal.returns-clause-kept
-returns-clause-kept g c =
-    keeps_usage (Some c.args.chosen) (scene (g.F.Files.seen c.args.files.now) (g.O.Sink.seen c.args.out.now) (g.E.Sink.seen c.args.err.now)) (scene (g.F.Files.seen c.args.files.now) (g.O.Sink.seen c.args.out.now) (g.E.Sink.seen c.refuse_usage-in-Check.new.err)) _ (search rules) refl refl c.refuse_usage-in-Check.ensures.status c.refuse_usage-in-Check.ensures.line
