@@ -1,6 +1,6 @@
 // Files of other hands: fields with records, with dimensions that lead twice, and with fill values; and the
 // documents of what is made of them. The bytes are spelled by hand, by the netCDF classic format specification.
-ghost use Rattle.std.specs.Prelude.{◌≡◌, ◌≤◌, ℕ, length, IfOk};
+ghost use Rattle.std.specs.Prelude.{◌≡◌, ◌≤◌, ◌<◌, ℕ, length, IfOk};
 ghost use Rattle.nc_format.specs.Header.{IsHeader};
 ghost use Rattle.nc_format.specs.Sound.{IsSound};
 ghost use Rattle.nc_write.specs.Form.{IsWellFormed};
@@ -201,7 +201,10 @@ fn leading_twice(rt: HostRuntime) -> Result<(), Fail> {
     assert_eq!(rt; two.slices, 2);
     let doc = document(&rt, &file, b"y", 3, 1, &[2, 5, 8, 11], &[0; 4])?;
     assert_eq!(rt; doc.dims.items.len(), 2);
-    assert!(rt; doc.vars.items[0].dims.items.as_slice() == [0, 0, 1].as_slice());
+    let Some(whole) = doc.vars.items.first() else {
+        return Err("a variable was expected".into());
+    };
+    assert!(rt; whole.dims.items.as_slice() == [0, 0, 1].as_slice());
     assert_eq!(rt; doc.records, 0);
     Ok(())
 }
