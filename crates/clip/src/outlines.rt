@@ -1,5 +1,5 @@
 // A face with the planes of its edges, in 64 bits, and what it says of another one.
-ghost use Rattle.std.specs.Prelude.{◌≡◌, ◌<◌, ◌≤◌, length, MatchOption, IsTrue};
+ghost use Rattle.std.specs.Prelude.{◌≡◌, ◌<◌, ◌≤◌, [], length, MatchOption, IsTrue};
 ghost use Rattle.vec_exact.specs.Size.{Is18, Is37};
 ghost use Rattle.vec_exact.specs.Cycle.{vector_at, face_plane};
 ghost use Rattle.mesh_check.specs.Mesh.{corners_of};
@@ -28,8 +28,11 @@ pub struct Outline {
 }
 
 impl Outline {
-    /// An outline of no face yet.
-    pub fn new() -> Self {
+    /// An outline of no face yet: without nodes and without planes.
+    pub fn new() -> Self
+        ensures nodes { nodes_of result ≡ [] }
+        ensures planes { wide_list result.planes.items ≡ [] }
+    {
         Outline {
             nodes: NarrowList::new(),
             planes: NarrowList::new(),

@@ -12,11 +12,11 @@ const PATH_LEN: usize = 4096;
 // How many names are tried for a new file. A run that was killed leaves one taken.
 const NAMES: u32 = 100;
 
-/// Makes the named file hold exactly `bytes`. A regular file, or a name that is free, gets them
-/// whole or stays as it was: they go to a new file beside it, which takes the name when all of
-/// them are on the device. Anything else, as a device, a pipe or a symbolic link, is written in
-/// place.
-pub fn replace_file<R: Files>(files: &R, name: &str, bytes: &[u8]) -> io::Result<()> {
+// Makes the named file hold exactly `bytes`. A regular file, or a name that is free, gets them
+// whole or stays as it was: they go to a new file beside it, which takes the name when all of
+// them are on the device. Anything else, as a device, a pipe or a symbolic link, is written in
+// place. No clause says it: the machine's calls have none on what stands on the device.
+pub(crate) fn replace_file<R: Files>(files: &R, name: &str, bytes: &[u8]) -> io::Result<()> {
     match files.symlink_metadata(name) {
         Ok(found) if found.is_file() => {
             ask_to_write(files, name)?;
