@@ -118,6 +118,70 @@ fn with_short_numbers(alloc: Global) -> Result<Vec<u8>, AllocError> {
     Ok(file)
 }
 
+fn push_name(file: &mut Vec<u8>, name: &[u8]) -> Result<(), AllocError> {
+    file.extend_from_slice(&(name.len() as u32).to_be_bytes())?;
+    file.extend_from_slice(name)?;
+    while file.len() % 4 > 0 {
+        file.extend_from_slice(b"\0")?;
+    }
+    Ok(())
+}
+
+// The dimensions of eight nodes and of two blocks of four faces and of two.
+fn push_dimensions(file: &mut Vec<u8>) -> Result<(), AllocError> {
+    let dims: [(&[u8], u32); 6] = [
+        (b"num_nodes", 8),
+        (b"num_el_blk", 2),
+        (b"num_el_in_blk1", 4),
+        (b"num_nod_per_el1", 4),
+        (b"num_el_in_blk2", 2),
+        (b"num_nod_per_el2", 4),
+    ];
+    file.extend_from_slice(b"\0\0\0\x0a\0\0\0\x06")?;
+    for (name, len) in dims {
+        push_name(file, name)?;
+        file.extend_from_slice(&len.to_be_bytes())?;
+    }
+    Ok(())
+}
+
+// An INT variable of these dimensions, whose values begin at `begin`.
+fn push_variable(
+    file: &mut Vec<u8>,
+    name: &[u8],
+    dims: &[u8],
+    size: u32,
+    begin: u64,
+) -> Result<(), AllocError> {
+    push_name(file, name)?;
+    file.extend_from_slice(&(dims.len() as u32).to_be_bytes())?;
+    for dim in dims {
+        file.extend_from_slice(&[0, 0, 0, *dim])?;
+    }
+    file.extend_from_slice(b"\0\0\0\0\0\0\0\0\0\0\0\x04")?;
+    file.extend_from_slice(&size.to_be_bytes())?;
+    file.extend_from_slice(&begin.to_be_bytes())
+}
+
+// The same mesh with three variables of coordinates, and its faces in two blocks.
+fn in_two_blocks(alloc: Global) -> Result<Vec<u8>, AllocError> {
+    let vars: [(&[u8], &[u8], u32, u64); 5] = [
+        (b"coordx", b"\0", 32, 396),
+        (b"coordy", b"\0", 32, 428),
+        (b"coordz", b"\0", 32, 460),
+        (b"connect1", b"\x02\x03", 64, 492),
+        (b"connect2", b"\x04\x05", 32, 556),
+    ];
+    let mut file = b"CDF\x02\0\0\0\0".to_vec(alloc)?;
+    push_dimensions(&mut file)?;
+    file.extend_from_slice(b"\0\0\0\0\0\0\0\0\0\0\0\x0b\0\0\0\x05")?;
+    for (name, dims, size, begin) in vars {
+        push_variable(&mut file, name, dims, size, begin)?;
+    }
+    file.extend_from_slice(&CS1[248..])?;
+    Ok(file)
+}
+
 #[test]
 fn mesh_files_of_other_forms_are_read(rt: HostRuntime) -> Result<(), Fail> {
     let alloc = rt.alloc();
@@ -125,6 +189,7 @@ fn mesh_files_of_other_forms_are_read(rt: HostRuntime) -> Result<(), Fail> {
         (with_a_long_header(alloc)?, 140_912),
         (in_version_1(alloc)?, 864),
         (with_short_numbers(alloc)?, 784),
+        (in_two_blocks(alloc)?, 1176),
     ] {
         let mut row = Run::new(alloc);
         row.place("a.g", &file)?;

@@ -195,6 +195,40 @@ fn three_blocks_are_drawn(rt: HostRuntime) {
     }
 }
 
+// How many blocks were entered, and how many were left.
+#[derive(Drop)]
+struct Counting {
+    entered: AtomicU64,
+    left: AtomicU64,
+}
+
+impl Gate for Counting {
+    fn enter(&self, _block: u32) {
+        let _before = self.entered.fetch_add(1, Ordering::SeqCst);
+    }
+
+    fn leave(&self, _block: u32) {
+        let _before = self.left.fetch_add(1, Ordering::SeqCst);
+    }
+}
+
+#[test]
+fn each_block_is_entered_and_left(rt: HostRuntime) {
+    let mesh = accepted(&rt, rt.alloc(), gen_cs::make(rt.alloc(), 5));
+    for workers in 1..4 {
+        let gate = Counting {
+            entered: AtomicU64::new(0),
+            left: AtomicU64::new(0),
+        };
+        let Ok(overlap) = found(&rt, rt.alloc(), &mesh, &mesh, workers, &gate) else {
+            panic!(rt; "a fault");
+        };
+        assert_eq!(rt; overlap.pieces.items.len(), 150);
+        assert_eq!(rt; gate.entered.load(Ordering::SeqCst), 3);
+        assert_eq!(rt; gate.left.load(Ordering::SeqCst), 3);
+    }
+}
+
 // The plain program: every pair is clipped, and the pairs that meet are those of the overlap, in its
 // order and with its rings.
 fn is_plain_counted<L: Ledger>(a: &Mesh, b: &Mesh, overlap: &Overlap, blank: Blank) -> bool
