@@ -72,12 +72,12 @@ header_is doc m version dims atts vars =
     let no_atts : length (flat_map (attribute (version_of doc)) doc.atts) ≡ 0 = ap (λ l. length (flat_map (attribute (version_of doc)) l)) atts in
     let dims_are : length (flat_map (dimension (version_of doc)) doc.dims) ≡ 60 = ap₂ (λ v l. length (flat_map (dimension v) l)) version dims ∙ dims_length m.n_a m.n_b (length m.rows) in
     let col = variable_of (codes "col") (2 ∷ []) (Int (col_column m.rows)) in
-    let row = variable_of (codes "row") (2 ∷ []) (Int (row_column m.rows)) in
+    let rows = variable_of (codes "row") (2 ∷ []) (Int (row_column m.rows)) in
     let s = variable_of (codes "S") (2 ∷ []) (Long (measure_column m.rows)) in
     let area_a = variable_of (codes "area_a") (0 ∷ []) (Long m.area_a) in
     let area_b = variable_of (codes "area_b") (1 ∷ []) (Long m.area_b) in
     let len : DocVar → ℕ = λ v. length (variable doc 0 v) in
-    let vars_are : sum_by len doc.vars ≡ len col + len row + len s + len area_a + len area_b = ap (λ l. sum_by len l) vars ∙ sum_of_five len col row s area_a area_b in
+    let vars_are : sum_by len doc.vars ≡ len col + len rows + len s + len area_a + len area_b = ap (λ l. sum_by len l) vars ∙ sum_of_five len col rows s area_a area_b in
     omega (
       arith,
       header_len_is doc,
@@ -86,7 +86,7 @@ header_is doc m version dims atts vars =
       dims_are,
       vars_are,
       var_length doc col 12 version name_lengths.0 refl,
-      var_length doc row 12 version name_lengths.1 refl,
+      var_length doc rows 12 version name_lengths.1 refl,
       var_length doc s 12 version name_lengths.2 refl,
       var_length doc area_a 16 version name_lengths.3 refl,
       var_length doc area_b 16 version name_lengths.4 refl,
