@@ -3,8 +3,8 @@ mod Triples
 mod FirstNot
 mod RowFaults
 mod GoodRows
-mod FoundOverlap
-mod ReadOverlaps
+pub mod FoundOverlap
+pub mod ReadOverlaps
 mod RowsAgain
 mod OverlapAgain
 mod Taken

@@ -1,0 +1,2 @@
+pub mod OneOverlap
+pub mod Values

@@ -1,0 +1,2 @@
+pub mod OverlapFile
+pub mod Refusals

@@ -1,0 +1,15 @@
+//! An overlap file by its name: the overlap that it holds, or why there is none.
+#![tactic(auto)]
+
+mod laws;
+mod loading;
+mod refusal;
+
+pub use laws::law_one_overlap_file;
+pub use loading::load_overlap;
+use remap_files::FileFault;
+use remap_load::FileRefusal;
+
+/// Why no overlap was loaded from a file. A fault of what the file holds is `FileFault::Name` or
+/// `FileFault::Row`; it names no area, and it is never want of memory.
+pub type OverlapRefusal = FileRefusal<FileFault>;
