@@ -1,3 +1,3 @@
 mod RightPieces
-mod FirstFaults
+pub mod FirstFaults
 mod Made

@@ -5,6 +5,9 @@ use Rattle.remap_load.specs.declared.fault.LoadFault.TheVariants as load
 use Rattle.remap_load.specs.declared.refusal.FileRefusal.{FileRefusal}
 use Rattle.remap_load.specs.declared.refusal.FileRefusal.TheVariants.{Load, Content}
 use Rattle.mesh_load.specs.declared.MeshFileFault.TheVariants as of_file
+use Rattle.remap_files.specs.declared.faults.FileFault.TheVariants as of_rows
+use Rattle.offline_map.specs.declared.faults.MapFault.{MapFault}
+use Rattle.offline_map.specs.declared.faults.MapFault.TheVariants as of_map
 use Rattle.command_line.specs.declared.choices.Chosen.{Chosen}
 use Rattle.command_line.specs.declared.choices.Chosen.TheVariants.{Cs, Rll, Ico, Overlap, OfflineMap, Apply, SelfRun, Coverage, Check}
 use Rattle.tempest_top.specs.declared.status.Status.{Status}
@@ -12,7 +15,8 @@ use Rattle.tempest_top.specs.declared.status.Status.TheVariants.{Done, Usage, No
 use Rattle.tempest_top.specs.Scene.{Scene}
 use Rattle.tempest_top.specs.Lines.{line_of, GainsLine, IsPutRefused, PutsText}
 use Rattle.tempest_top.specs.Faults.{FileWords, status_of, mesh_words}
-use Rattle.tempest_top.specs.Inputs.{Input, MeshFile, inputs_of, output_of, AreTold, IsReached, IsInputText}
+use Rattle.tempest_top.specs.MapFaults.{overlap_words, status_of_map_fault}
+use Rattle.tempest_top.specs.Inputs.{Input, MeshFile, OverlapFile, inputs_of, output_of, AreTold, IsReached, IsInputText}
 use Rattle.tempest_top.specs.Outcome.{Output, Outcome, IsOutcome, TheOutcome, is_usage}
 use Rattle.tempest_top.specs.Promises.{IsWriteFailed, IsAnswer, IsWriteFaultText, IsOwnText, IsText, PutsLine, Keeps}
 use Rattle.tempest_top.specs.Ends.{IsEnd, IsEndText, written_name, Ends, Belongs, IsStopped, IsCutShort, IsEnded, Comes}
@@ -122,8 +126,23 @@ pub mesh_spoken : IsSpoken mesh_words
 mesh_spoken (of_file.Names fault) = tt
 mesh_spoken (of_file.Mesh fault) = tt
 
+pub overlap_spoken : IsSpoken overlap_words
+overlap_spoken (of_rows.Name fault) = tt
+overlap_spoken (of_rows.Row n) = tt
+overlap_spoken (of_rows.AreaA n) = tt
+overlap_spoken (of_rows.AreaB n) = tt
+overlap_spoken of_rows.NoMemory = tt
+
+map_not : (fault : MapFault) → (Usage ≡ status_of_map_fault fault → ⊥) × (NoFile ≡ status_of_map_fault fault → ⊥)
+map_not (of_map.CountsA in_file of_mesh) = (λ e. absurd cc, λ e. absurd cc)
+map_not (of_map.CountsB in_file of_mesh) = (λ e. absurd cc, λ e. absurd cc)
+map_not (of_map.Row n) = (λ e. absurd cc, λ e. absurd cc)
+map_not (of_map.Uncovered n) = (λ e. absurd cc, λ e. absurd cc)
+map_not of_map.NoMemory = (λ e. absurd cc, λ e. absurd cc)
+
 input_usage : (input : Input) (text : List ℕ) → IsInputText input text Usage → ⊥
 input_usage (MeshFile name) text h = never_usage mesh_words mesh_spoken h.0 h.2
+input_usage (OverlapFile name) text h = never_usage overlap_words overlap_spoken h.0 h.2
 
 own_usage : (chosen : Option Chosen) (text : List ℕ) → IsOwnText chosen text Usage → is_usage chosen ≡ true
 own_usage None text h = refl
@@ -132,7 +151,7 @@ own_usage (Some (Rll lon lat file)) text h = absurd (let e = h.0 in cc)
 own_usage (Some (Ico res dual file)) text h = absurd (let e = h.0 in cc)
 own_usage (Some (Overlap a b out workers)) text (inl h) = absurd (let e = h.0 in cc)
 own_usage (Some (Overlap a b out workers)) text (inr h) = absurd (let e = h.0 in cc)
-own_usage (Some (OfflineMap in_mesh out_mesh ov_mesh out_map)) text h = refl
+own_usage (Some (OfflineMap in_mesh out_mesh ov_mesh out_map)) text h = absurd ((map_not h.0).0 h.2)
 own_usage (Some (Apply map var in_data out_data masked)) text h = refl
 own_usage (Some (SelfRun n workers)) text h = refl
 own_usage (Some (Coverage a b)) text h = absurd h
@@ -149,7 +168,7 @@ own_no_file (Some (Rll lon lat file)) text h = let e = h.0 in absurd cc
 own_no_file (Some (Ico res dual file)) text h = let e = h.0 in absurd cc
 own_no_file (Some (Overlap a b out workers)) text (inl h) = let e = h.0 in absurd cc
 own_no_file (Some (Overlap a b out workers)) text (inr h) = let e = h.0 in absurd cc
-own_no_file (Some (OfflineMap in_mesh out_mesh ov_mesh out_map)) text h = let e = h.0 in absurd cc
+own_no_file (Some (OfflineMap in_mesh out_mesh ov_mesh out_map)) text h = (map_not h.0).1 h.2
 own_no_file (Some (Apply map var in_data out_data masked)) text h = let e = h.0 in absurd cc
 own_no_file (Some (SelfRun n workers)) text h = let e = h.0 in absurd cc
 own_no_file (Some (Coverage a b)) text h = h
@@ -260,7 +279,7 @@ usage_text (Some (Cs res file)) h = cc
 usage_text (Some (Rll lon lat file)) h = absurd cc
 usage_text (Some (Ico res dual file)) h = absurd cc
 usage_text (Some (Overlap a b out workers)) h = absurd cc
-usage_text (Some (OfflineMap in_mesh out_mesh ov_mesh out_map)) h = (refl, refl)
+usage_text (Some (OfflineMap in_mesh out_mesh ov_mesh out_map)) h = absurd cc
 usage_text (Some (Apply map var in_data out_data masked)) h = (refl, refl)
 usage_text (Some (SelfRun n workers)) h = (refl, refl)
 usage_text (Some (Coverage a b)) h = absurd cc

@@ -11,6 +11,9 @@ use Rattle.remap_load.proofs.Contents.{IsLawful, one_content, one_refusal, not_b
 use Rattle.mesh_load.proofs.OneMesh.{mesh_law}
 use Rattle.clip.specs.Overlaps.{OverlapParts}
 use Rattle.remap_files.specs.OverlapDocument.{overlap_document}
+use Rattle.offline_map.specs.declared.faults.MapFault.{MapFault}
+use Rattle.offline_map.proofs.FirstFaults.{same_map_fault, no_map_fault}
+use Rattle.overlap_load.proofs.OneOverlap.{overlap_law}
 use Rattle.gen_ico.proofs.One.{one_made as one_icosahedral}
 use Rattle.cover_check.specs.declared.counting.CoverCount.{CoverCount}
 use Rattle.cover_check.proofs.OneCount.{one_cover_count}
@@ -21,7 +24,8 @@ use Rattle.command_line.specs.declared.choices.Chosen.TheVariants.{Cs, Rll, Ico,
 use Rattle.tempest_top.specs.declared.status.Status.TheVariants.{Limit}
 use Rattle.tempest_top.specs.Lines.{pieces_text, coverage_text, report_text}
 use Rattle.tempest_top.specs.Faults.{FileWords, status_of, text_of, mesh_words, too_many_pieces_text}
-use Rattle.tempest_top.specs.Outcome.{Outcome, IsOutcome, IsOutcomeOfMade, IsOutcomeOfDocument, IsOutcomeOfPair, IsOutcomeOfCoverage, IsOutcomeOfReport, AfterFile, text_alone, refusal, fault_of_made, mesh_written, is_usage, usage}
+use Rattle.tempest_top.specs.MapFaults.{overlap_words, status_of_map_fault, map_fault_text}
+use Rattle.tempest_top.specs.Outcome.{Outcome, IsOutcome, IsOutcomeOfMade, IsOutcomeOfDocument, IsOutcomeOfPair, IsOutcomeOfMap, IsOutcomeOfCoverage, IsOutcomeOfReport, AfterFile, text_alone, refusal, fault_of_made, mesh_written, is_usage, usage}
 use Rattle.tempest_top.proofs.OnePair.{one_count, one_overlap, count_of_overlap}
 
 -- what two outcomes are equal to
@@ -52,6 +56,14 @@ one_pair source target file m o p (inl a) (inl b) = a.3 ∙ ap (λ (n : ℕ). re
 one_pair source target file m o p (inl a) (inr b) = absurd (omega (arith, a.2, b.2, count_of_overlap source target b.0 a.0 b.1 a.1))
 one_pair source target file m o p (inr a) (inl b) = absurd (omega (arith, a.2, b.2, count_of_overlap source target a.0 b.0 a.1 b.1))
 one_pair source target file m o p (inr a) (inr b) = one_document _ _ file m o p a.3 (subst (of_overlap file m p) (one_overlap source target b.0 a.0 b.1 a.1) b.3)
+
+-- and so has an overlap of two meshes whose map is asked for
+one_map : (source target : RawMesh) (overlap : OverlapParts) (ov_file file : List ℕ) (m : Option Folder) (o p : Outcome) → IsOutcomeOfMap source target overlap ov_file file m o → IsOutcomeOfMap source target overlap ov_file file m p → o ≡ p
+one_map source target overlap ov_file file m o p (inl a) (inl b) =
+    a.2 ∙ ap (λ (fault : MapFault). refusal (status_of_map_fault fault) (map_fault_text ov_file fault) m) (same_map_fault source target overlap a.0 b.0 a.1 b.1) ∙ sym b.2
+one_map source target overlap ov_file file m o p (inl a) (inr b) = absurd (no_map_fault source target overlap a.0 b.0 a.1)
+one_map source target overlap ov_file file m o p (inr a) (inl b) = absurd (no_map_fault source target overlap b.0 a.0 b.1)
+one_map source target overlap ov_file file m o p (inr a) (inr b) = one_document _ _ file m o p a.1 b.1
 
 -- what a mesh covers of another is told in one way
 one_coverage : (source target : RawMesh) (m : Option Folder) (o p : Outcome) → IsOutcomeOfCoverage source target m o → IsOutcomeOfCoverage source target m p → o ≡ p
@@ -86,7 +98,13 @@ one_outcome (Some (Ico res dual file)) m o p e f = one_made e.0 file m o p e.2 (
 one_outcome (Some (Overlap a b out workers)) m o p e f =
     one_after mesh_words mesh_law m a (λ source. AfterFile mesh_words m b (λ target. IsOutcomeOfPair source target out m))
     (λ source. one_after mesh_words mesh_law m b (λ target. IsOutcomeOfPair source target out m) (λ target. one_pair source target out m)) o p e f
-one_outcome (Some (OfflineMap in_mesh out_mesh ov_mesh out_map)) m o p e f = same o p _ e f
+one_outcome (Some (OfflineMap in_mesh out_mesh ov_mesh out_map)) m o p e f =
+    let of_map = λ (source target : RawMesh) (overlap : OverlapParts). IsOutcomeOfMap source target overlap ov_mesh out_map m in
+    one_after mesh_words mesh_law m in_mesh (λ source. AfterFile mesh_words m out_mesh (λ target. AfterFile overlap_words m ov_mesh (of_map source target)))
+    (λ source.
+    one_after mesh_words mesh_law m out_mesh (λ target. AfterFile overlap_words m ov_mesh (of_map source target))
+    (λ target. one_after overlap_words overlap_law m ov_mesh (of_map source target) (λ overlap. one_map source target overlap ov_mesh out_map m)))
+    o p e f
 one_outcome (Some (Apply map var in_data out_data masked)) m o p e f = same o p _ e f
 one_outcome (Some (SelfRun n workers)) m o p e f = same o p _ e f
 one_outcome (Some (Coverage a b)) m o p e f =
@@ -105,7 +123,7 @@ usage_outcome (Some (Cs res file)) m h = cc
 usage_outcome (Some (Rll lon lat file)) m h = absurd cc
 usage_outcome (Some (Ico res dual file)) m h = absurd cc
 usage_outcome (Some (Overlap a b out workers)) m h = absurd cc
-usage_outcome (Some (OfflineMap in_mesh out_mesh ov_mesh out_map)) m h = refl
+usage_outcome (Some (OfflineMap in_mesh out_mesh ov_mesh out_map)) m h = absurd cc
 usage_outcome (Some (Apply map var in_data out_data masked)) m h = refl
 usage_outcome (Some (SelfRun n workers)) m h = refl
 usage_outcome (Some (Coverage a b)) m h = absurd cc

@@ -2,6 +2,7 @@
 use Rattle.std.specs.Prelude.{◌≡◌, ◌⊎◌, ℕ, List, [], ◌∷◌, Option, Some, None, IfSome, ⊤}
 use Rattle.std.specs.List.{sum_by}
 use Rattle.vec_exact.specs.declared.RawMesh.{RawMesh}
+use Rattle.clip.specs.Overlaps.{OverlapParts}
 use Rattle.remap_io.specs.Folder.{Folder}
 use Rattle.remap_load.specs.declared.refusal.FileRefusal.{FileRefusal}
 use Rattle.remap_load.specs.Kinds.{IsFile, IsToldRefusal, file_cost}
@@ -9,22 +10,27 @@ use Rattle.command_line.specs.declared.choices.Chosen.{Chosen}
 use Rattle.command_line.specs.declared.choices.Chosen.TheVariants.{Cs, Rll, Ico, Overlap, OfflineMap, Apply, SelfRun, Coverage, Check}
 use Rattle.tempest_top.specs.declared.status.Status.{Status}
 use Rattle.tempest_top.specs.Faults.{FileWords, status_of, text_of, mesh_words}
+use Rattle.tempest_top.specs.MapFaults.{overlap_words}
 
 -- an input file, by what it is to hold
 pub data Input : Type 0 where
   MeshFile : List ℕ → Input
+  OverlapFile : List ℕ → Input
 
 -- its name
 abbrev pub name_of_input : Input → List ℕ
 name_of_input (MeshFile name) = name
+name_of_input (OverlapFile name) = name
 
 -- the file holds it
 abbrev pub IsGood : Folder → Input → Type 0
 IsGood m (MeshFile name) = (mesh : RawMesh) × IsFile mesh_words.kind m name mesh
+IsGood m (OverlapFile name) = (overlap : OverlapParts) × IsFile overlap_words.kind m name overlap
 
 -- how many bytes are asked for at most where it does
 abbrev pub cost_of : Folder → Input → ℕ
 cost_of m (MeshFile name) = file_cost mesh_words.kind m name
+cost_of m (OverlapFile name) = file_cost overlap_words.kind m name
 
 -- the text and the status of a refusal of a file of a kind
 abbrev pub IsFileText : {A C : Type 0} → FileWords A C → List ℕ → List ℕ → Status → Type 0
@@ -34,6 +40,7 @@ IsFileText {C = C} words name text status =
 -- the same of an input file
 abbrev pub IsInputText : Input → List ℕ → Status → Type 0
 IsInputText (MeshFile name) text status = IsFileText mesh_words name text status
+IsInputText (OverlapFile name) text status = IsFileText overlap_words name text status
 
 -- the input files of a command, in the order in which they are dealt with; a command that isn't there yet reads none
 abbrev pub inputs_of : Option Chosen → List Input
@@ -42,7 +49,7 @@ inputs_of (Some (Cs res file)) = []
 inputs_of (Some (Rll lon lat file)) = []
 inputs_of (Some (Ico res dual file)) = []
 inputs_of (Some (Overlap a b out workers)) = MeshFile a ∷ MeshFile b ∷ []
-inputs_of (Some (OfflineMap in_mesh out_mesh ov_mesh out_map)) = []
+inputs_of (Some (OfflineMap in_mesh out_mesh ov_mesh out_map)) = MeshFile in_mesh ∷ MeshFile out_mesh ∷ OverlapFile ov_mesh ∷ []
 inputs_of (Some (Apply map var in_data out_data masked)) = []
 inputs_of (Some (SelfRun n workers)) = []
 inputs_of (Some (Coverage a b)) = MeshFile a ∷ MeshFile b ∷ []

@@ -3,6 +3,7 @@ pub mod Ends
 pub mod Faults
 pub mod Inputs
 pub mod Lines
+pub mod MapFaults
 pub mod NameParts
 pub mod Outcome
 pub mod Promises

@@ -5,6 +5,7 @@ use Rattle.remap_io.specs.Causes.{Rose}
 use Rattle.cover_check.specs.declared.counting.CoverCount.{CoverCount}
 use Rattle.mesh_partition.specs.declared.reporting.MeshReport.{MeshReport}
 use Rattle.remap_io.specs.Outside.{SinkSeen}
+use Rattle.map_rows.specs.Maps.{MapParts}
 
 -- what is put to the output for a mesh that was made
 abbrev pub mesh_text : RawMesh → List ℕ
@@ -13,6 +14,10 @@ mesh_text raw = codes "faces " ++ decimal (length raw.faces) ++ codes " nodes " 
 -- what is put to the output for the pieces of two meshes
 abbrev pub pieces_text : ℕ → List ℕ
 pieces_text n = codes "pieces " ++ decimal n ++ codes "\n"
+
+-- what is put to the output for a map: how many rows it has, how many faces the source mesh has and how many the target mesh
+abbrev pub map_text : MapParts → List ℕ
+map_text m = codes "rows " ++ decimal (length m.rows) ++ codes " sources " ++ decimal m.n_a ++ codes " targets " ++ decimal m.n_b ++ codes "\n"
 
 -- what is put to the output for the targets of a mesh, and how many of them are covered
 abbrev pub coverage_text : ℕ → CoverCount → List ℕ

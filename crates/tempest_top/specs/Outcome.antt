@@ -17,6 +17,10 @@ use Rattle.clip.specs.Overlaps.{OverlapParts}
 use Rattle.overlap_run.specs.Pairs.{IsPairCount}
 use Rattle.overlap_run.specs.Whole.{IsOverlapOf}
 use Rattle.remap_files.specs.OverlapDocument.{overlap_document}
+use Rattle.remap_files.specs.MapDocument.{map_document}
+use Rattle.offline_map.specs.declared.faults.MapFault.{MapFault}
+use Rattle.offline_map.specs.Maps.{map_of}
+use Rattle.offline_map.specs.MapFaults.{IsMapFaultOf, IsMappable}
 use Rattle.cover_check.specs.declared.counting.CoverCount.{CoverCount}
 use Rattle.cover_check.specs.CoveredTargets.{IsCoverCount}
 use Rattle.mesh_partition.specs.declared.reporting.MeshReport.{MeshReport}
@@ -25,8 +29,9 @@ use Rattle.command_line.specs.declared.choices.Chosen.{Chosen}
 use Rattle.command_line.specs.declared.choices.Chosen.TheVariants.{Cs, Rll, Ico, Overlap, OfflineMap, Apply, SelfRun, Coverage, Check}
 use Rattle.tempest_top.specs.declared.status.Status.{Status}
 use Rattle.tempest_top.specs.declared.status.Status.TheVariants.{Done, Usage, Mesh, Limit}
-use Rattle.tempest_top.specs.Lines.{mesh_text, pieces_text, coverage_text, report_text, line_of}
+use Rattle.tempest_top.specs.Lines.{mesh_text, pieces_text, map_text, coverage_text, report_text, line_of}
 use Rattle.tempest_top.specs.Faults.{FileWords, status_of, text_of, mesh_words, mesh_fault_text, length_text, too_many_pieces_text}
+use Rattle.tempest_top.specs.MapFaults.{overlap_words, status_of_map_fault, map_fault_text}
 use Rattle.tempest_top.specs.Inputs.{inputs_of, AreTold}
 
 -- The output file of a command: its name and its new bytes.
@@ -92,6 +97,12 @@ IsOutcomeOfPair source target file m o =
     ((n : ℕ) × IsPairCount source target n × (MAX_PIECES < n) × (o ≡ refusal Limit (too_many_pieces_text n) m))
     ⊎ ((overlap : OverlapParts) × IsOverlapOf source target overlap × (length overlap.pieces ≤ MAX_PIECES) × IsOutcomeOfDocument (overlap_document overlap) (pieces_text (length overlap.pieces)) file m o)
 
+-- The map of the overlap of a file is written to another, unless the overlap has a fault as one of the two meshes, which is told.
+abbrev pub IsOutcomeOfMap : RawMesh → RawMesh → OverlapParts → List ℕ → List ℕ → Option Folder → Outcome → Type 0
+IsOutcomeOfMap source target overlap ov_file file m o =
+    ((fault : MapFault) × IsMapFaultOf source target overlap fault × (o ≡ refusal (status_of_map_fault fault) (map_fault_text ov_file fault) m))
+    ⊎ (IsMappable source target overlap × IsOutcomeOfDocument (map_document (map_of overlap)) (map_text (map_of overlap)) file m o)
+
 -- What the source mesh covers of the target mesh is told.
 abbrev pub IsOutcomeOfCoverage : RawMesh → RawMesh → Option Folder → Outcome → Type 0
 IsOutcomeOfCoverage source target m o = (count : CoverCount) × IsCoverCount source target count × (o ≡ text_alone (coverage_text (length target.faces) count) m)
@@ -109,7 +120,7 @@ is_usage (Some (Cs res file)) = false
 is_usage (Some (Rll lon lat file)) = false
 is_usage (Some (Ico res dual file)) = false
 is_usage (Some (Overlap a b out workers)) = false
-is_usage (Some (OfflineMap in_mesh out_mesh ov_mesh out_map)) = true
+is_usage (Some (OfflineMap in_mesh out_mesh ov_mesh out_map)) = false
 is_usage (Some (Apply map var in_data out_data masked)) = true
 is_usage (Some (SelfRun n workers)) = true
 is_usage (Some (Coverage a b)) = false
@@ -127,7 +138,8 @@ IsOutcome (Some (Cs res file)) m o = o ≡ mesh_written (cubed_sphere res) file 
 IsOutcome (Some (Rll lon lat file)) m o = IsOutcomeOfMade (latitude_longitude lon lat) file m o
 IsOutcome (Some (Ico res dual file)) m o = (raw : RawMesh) × IsMade res dual raw × IsOutcomeOfMade raw file m o
 IsOutcome (Some (Overlap a b out workers)) m o = AfterFile mesh_words m a (λ source. AfterFile mesh_words m b (λ target. IsOutcomeOfPair source target out m)) o
-IsOutcome (Some (OfflineMap in_mesh out_mesh ov_mesh out_map)) m o = o ≡ usage m
+IsOutcome (Some (OfflineMap in_mesh out_mesh ov_mesh out_map)) m o =
+    AfterFile mesh_words m in_mesh (λ source. AfterFile mesh_words m out_mesh (λ target. AfterFile overlap_words m ov_mesh (λ overlap. IsOutcomeOfMap source target overlap ov_mesh out_map m))) o
 IsOutcome (Some (Apply map var in_data out_data masked)) m o = o ≡ usage m
 IsOutcome (Some (SelfRun n workers)) m o = o ≡ usage m
 IsOutcome (Some (Coverage a b)) m o = AfterFile mesh_words m a (λ source. AfterFile mesh_words m b (λ target. IsOutcomeOfCoverage source target m)) o

@@ -13,6 +13,7 @@ use Rattle.tempest_top.specs.declared.status.Status.TheVariants.{Done, Usage, No
 use Rattle.tempest_top.specs.Scene.{Scene}
 use Rattle.tempest_top.specs.Lines.{line_of, PutsText}
 use Rattle.tempest_top.specs.Faults.{mesh_fault_text, length_text, too_many_pieces_text, read_fault_text}
+use Rattle.tempest_top.specs.MapFaults.{IsMapText}
 use Rattle.tempest_top.specs.Inputs.{Input, name_of_input, inputs_of, output_of, IsReached, IsInputText, reading_cost}
 use Rattle.tempest_top.specs.Outcome.{Output, TheOutcome, is_usage}
 
@@ -86,7 +87,7 @@ IsOwnText (Some (Cs res file)) text status = ⊥
 IsOwnText (Some (Rll lon lat file)) text status = IsMadeText text status
 IsOwnText (Some (Ico res dual file)) text status = IsMadeText text status
 IsOwnText (Some (Overlap a b out workers)) text status = IsOverlapText out text status
-IsOwnText (Some (OfflineMap in_mesh out_mesh ov_mesh out_map)) text status = IsUsageText text status
+IsOwnText (Some (OfflineMap in_mesh out_mesh ov_mesh out_map)) text status = IsMapText ov_mesh text status
 IsOwnText (Some (Apply map var in_data out_data masked)) text status = IsUsageText text status
 IsOwnText (Some (SelfRun n workers)) text status = IsUsageText text status
 IsOwnText (Some (Coverage a b)) text status = ⊥

@@ -17,9 +17,9 @@ use overlap_run::RunFault;
 use remap_io::Sink;
 use remap_load::{FileRefusal, LoadFault};
 
-// Puts the line of a file, a text and a number.
+/// Puts the line of a file, a text and a number.
 #[tactic(auto, using(crate::proofs::Pieces::in_three))]
-fn put_numbered<E: Sink>(err: &mut E, file: &str, text: &str, n: u64)
+pub fn put_numbered<E: Sink>(err: &mut E, file: &str, text: &str, n: u64)
     ensures { PutsText (E.seen err.old) (E.seen err.new) (file.now ++ text.now ++ decimal n) }
 {
     let mut digits = Buffer::new();
@@ -136,8 +136,8 @@ fn put_name<E: Sink>(err: &mut E, file: &str, text: &str, var: &str, id: NameId)
     }
 }
 
-// Puts the line that a needed name of this file is at fault. `--var` gave the name `var`.
-fn put_name_fault<E: Sink>(err: &mut E, file: &str, var: &str, fault: NameFault)
+/// Puts the line that a needed name of this file is at fault. `--var` gave the name `var`.
+pub fn put_name_fault<E: Sink>(err: &mut E, file: &str, var: &str, fault: NameFault)
     ensures { PutsText (E.seen err.old) (E.seen err.new) (name_fault_text file.now var.now fault) }
 {
     match fault {

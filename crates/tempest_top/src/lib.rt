@@ -8,6 +8,8 @@ mod generate;
 mod inputs;
 mod laws;
 mod lines;
+mod map;
+mod map_faults;
 mod pairs;
 mod report;
 mod status;

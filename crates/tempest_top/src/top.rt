@@ -12,6 +12,7 @@ use crate::Status;
 use crate::cover::check_coverage;
 use crate::finish::{refuse_memory, refuse_usage};
 use crate::generate::{generate_cs, generate_ico, generate_rll};
+use crate::map::generate_map;
 use crate::pairs::generate_overlap;
 use crate::report::check_mesh;
 use command_line::{Chosen, OptFault, options};
@@ -46,7 +47,16 @@ fn run_chosen<R: Threads, F: Files, O: Sink, E: Sink>(
             out: file,
             workers,
         } => { generate_overlap(rt, alloc, &a, &b, &file, workers, files, out, err) }
-        Chosen::OfflineMap { .. } => refuse_usage(err),
+        Chosen::OfflineMap {
+            in_mesh,
+            out_mesh,
+            ov_mesh,
+            out_map,
+        } => {
+            generate_map(
+                alloc, &in_mesh, &out_mesh, &ov_mesh, &out_map, files, out, err,
+            )
+        }
         Chosen::Apply { .. } => refuse_usage(err),
         Chosen::SelfRun { .. } => refuse_usage(err),
         Chosen::Coverage { a, b } => check_coverage(alloc, &a, &b, files, out, err),
