@@ -1,14 +1,45 @@
 // The measure of a triangle, by the tangent of half its solid angle.
-ghost use Rattle.std.specs.Prelude.{◌≡◌, ◌≤◌, ◌<◌, ◌*◌, ◌^◌, pos, ◌*ℤ◌, ◌≤ℤ◌, ◌<ℤ◌, unsigned_abs};
+ghost use Rattle.std.specs.Prelude.{◌≡◌, ◌≤◌, ◌<◌, ◌+◌, ◌*◌, ◌^◌, pos, ◌*ℤ◌, ◌≤ℤ◌, ◌<ℤ◌, unsigned_abs};
 ghost use Rattle.vec_exact.specs.Vector.{inner};
 ghost use Rattle.vec_exact.specs.Size.{Within};
+ghost use Rattle.vec_exact.specs.Root.{root_of};
 ghost use Rattle.piece_measure.specs.Grid.{IsOnGrid};
 ghost use Rattle.piece_measure.specs.Triangle.{whole_length, numerator, denominator, half_tangent, halved, angle, triangle_measure};
 
-use vec_exact::{Vec3, det, dot, isqrt, vector};
+use vec_exact::{Vec3, det, dot, vector};
 
 // One in fixed point, 2^36.
 const UNIT: u128 = 1 << 36;
+
+// The root of `x`, rounded down. It is most often the guess; one that is off costs time alone.
+#[tactic(auto, using(vec_exact::proofs::Roots::root_unique))]
+fn root_near(x: u128, guess: u64) -> u128
+    ensures value { result ≡ root_of x }
+    ensures square { result * result ≤ x }
+    ensures greatest { x < (result + 1) * (result + 1) }
+{
+    let root = u128::from(guess);
+    let square = root * root;
+    if square <= x && x - square <= 2 * root {
+        root
+    } else {
+        x.isqrt()
+    }
+}
+
+// A number nearer to the root of `square` than `root` is: a step of Newton's.
+fn nearer(square: u64, root: u64) -> u64 {
+    let root = root.max(1);
+    root.saturating_add(square / root) / 2
+}
+
+// A guess at the root of `square`, which is right from 2^56 to 3 * 2^56, where the squares of the
+// lengths of grid corners are: a line near the root, and three steps. No clause says it, since every
+// guess serves.
+fn length_guess(square: u64) -> u64 {
+    let line = (1 << 27) + (3 << 23) + (3 << 21) + (square >> 31) * 3;
+    nearer(square, nearer(square, nearer(square, line)))
+}
 
 // The length of `a`, rounded down.
 fn whole_length(a: Vec3) -> i128
@@ -16,7 +47,9 @@ fn whole_length(a: Vec3) -> i128
     ensures value { result ≡ pos (whole_length a) }
     ensures size { unsigned_abs result < 2 ^ 29 }
 {
-    isqrt(dot(a, a))
+    let square = dot(a, a).unsigned_abs();
+    let guess = length_guess(square.min(u64::MAX.into()) as u64);
+    root_near(square, guess) as i128
 }
 
 // The product of three lengths.
@@ -84,15 +117,27 @@ fn half_tangent(a: Vec3, b: Vec3, c: Vec3) -> u128
     (numerator(a, b, c) * UNIT / denominator(a, b, c)).min(4 * UNIT)
 }
 
+// A guess at the root of 2^72 + t^2, which is right where `t` is small: 2^36, and t^2 / 2^37 less a
+// term more. No clause says it, since every guess serves.
+fn hypotenuse_guess(t: u128) -> u64
+    requires { t ≤ 2 ^ 38 }
+{
+    let square = t * t;
+    let first = square >> 37;
+    let second = square.saturating_sub(first * first) >> 37;
+    (UNIT + second) as u64
+}
+
 // The tangent of half the angle whose tangent is `t`.
-#[tactic(auto, unfolding(crate::specs::Triangle::halved), using(vec_exact::proofs::Roots::root_unique, crate::proofs::Series::halved_at_most))]
+#[tactic(auto, unfolding(crate::specs::Triangle::halved), using(crate::proofs::Series::halved_at_most))]
 fn halved(t: u128) -> u128
     requires { t ≤ 2 ^ 38 }
     ensures value { result ≡ halved t }
     ensures below_one { result < 2 ^ 36 }
     ensures half { 2 * result ≤ t }
 {
-    t * UNIT / (UNIT + (UNIT * UNIT + t * t).isqrt())
+    let root = root_near(UNIT * UNIT + t * t, hypotenuse_guess(t));
+    t * UNIT / (UNIT + root)
 }
 
 // The angle whose tangent is `s`, which is at most 1, by three terms of its series.
