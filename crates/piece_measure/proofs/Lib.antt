@@ -4,3 +4,4 @@ pub mod Multiples
 mod Sizes
 mod Series
 mod Denominator
+mod Quotients

@@ -1,7 +1,8 @@
 -- How large the products of triples on the grid are, and their sums.
-use Rattle.std.proofs.Common.{ℕ, ◌*◌, ◌<◌, ◌≤◌, ◌^◌, ℤ, ◌+ℤ◌, ◌*ℤ◌, unsigned_abs, arith, lit≤, FitsSigned}
+use Rattle.std.proofs.Common.{ℕ, ◌*◌, ◌<◌, ◌≤◌, ◌^◌, ℤ, pos, Bool, true, false, cond, int_lt, ◌+ℤ◌, ◌*ℤ◌, unsigned_abs, arith, lit≤, FitsSigned}
 use Rattle.std.proofs.lemmas.Int.{ints, fits_signed_from_abs}
 use mir.Syntax.{w128}
+use Rattle.std.specs.Int.{int_max}
 use Rattle.vec_exact.specs.declared.Vec3.{Vec3}
 use Rattle.vec_exact.specs.Vector.{inner}
 use Rattle.vec_exact.specs.Size.{Within}
@@ -29,6 +30,7 @@ pub record FitsSums (p q r s : ℤ) : Type 0 where
   pub two : FitsSigned w128 (p +ℤ q)
   pub three : FitsSigned w128 (p +ℤ q +ℤ r)
   pub four : FitsSigned w128 (p +ℤ q +ℤ r +ℤ s)
+  pub small : unsigned_abs (p +ℤ q +ℤ r +ℤ s) < 2 ^ 90
 
 pub sums_fit : (p q r s : ℤ) → unsigned_abs p < 2 ^ 87 → unsigned_abs q < 2 ^ 87 → unsigned_abs r < 2 ^ 87 → unsigned_abs s < 2 ^ 87 → FitsSums p q r s
 sums_fit p q r s hp hq hr hs =
@@ -39,7 +41,12 @@ sums_fit p q r s hp hq hr hs =
       two = fits_signed_from_abs w128 (p +ℤ q) (omega (arith, two));
       three = fits_signed_from_abs w128 (p +ℤ q +ℤ r) (omega (arith, three));
       four = fits_signed_from_abs w128 (p +ℤ q +ℤ r +ℤ s) (omega (arith, four));
+      small = four;
     }
   where
     below : (p q : ℤ) (n : ℕ) → unsigned_abs p < n → unsigned_abs q < n → unsigned_abs (p +ℤ q) < 2 * n
     below p q n h g = omega (arith, ints, h, g)
+
+-- raised to 1, a number stays below a limit above 1
+pub raised_small : (z : ℤ) → unsigned_abs z < 2 ^ 90 → unsigned_abs (int_max z (pos 1)) < 2 ^ 90
+raised_small z h = elim (int_lt (pos 1) z) as (λ (b : Bool). unsigned_abs (cond b z (pos 1)) < 2 ^ 90) [ true ↦ h | false ↦ omega arith ]

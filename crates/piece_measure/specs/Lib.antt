@@ -1,4 +1,5 @@
 pub mod Grid
 pub mod Scale
 pub mod Triangle
+pub mod Arms
 pub mod Piece

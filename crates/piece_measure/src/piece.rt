@@ -3,7 +3,7 @@ ghost use Rattle.std.specs.Prelude.{◌≡◌, ◌≤◌, pos, ◌≤ℤ◌, len
 ghost use Rattle.piece_measure.specs.Grid.{IsOnGrid};
 ghost use Rattle.piece_measure.specs.Piece.{fan_measure, piece_measure_of};
 
-use crate::triangle::tri;
+use crate::triangle::{make_arm, tri_of_arms};
 
 /// The greatest measure of a piece, 2^40 - 1. The least is 1.
 pub const GREATEST_MEASURE: i64 = (1 << 40) - 1;
@@ -16,9 +16,13 @@ fn fan_measure(corners: &[[i32; 3]]) -> i64
     requires size { All IsOnGrid corners.now }
     ensures { result ≡ pos (fan_measure corners.now) }
 {
+    let first = make_arm(corners[0]);
+    let mut before = make_arm(corners[1]);
     let mut sum = 0;
     for t in 1..corners.len() - 1 {
-        sum += tri(corners[0], corners[t], corners[t + 1]);
+        let next = make_arm(corners[t + 1]);
+        sum += tri_of_arms(first, before, next);
+        before = next;
     }
     sum
 }

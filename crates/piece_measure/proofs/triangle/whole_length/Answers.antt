@@ -1,4 +1,4 @@
-use Rattle.std.proofs.Common.{◌≡◌, ◌∙◌, ◌<◌, ℕ, ℤ, pos, unsigned_abs, ap, arith, rules, FitsSigned}
+use Rattle.std.proofs.Common.{◌≡◌, ◌∙◌, ◌<◌, pos, unsigned_abs, ap, arith, rules, FitsSigned}
 use Rattle.std.proofs.lemmas.Int.{ints, to_z-of_z, to_z_pos}
 use mir.Syntax.{w128}
 use Rattle.vec_exact.specs.Vector.{inner}
