@@ -11,7 +11,12 @@ use Rattle.vec_exact.specs.Vector.{zero_triple, inner}
 use Rattle.vec_exact.specs.Cycle.{after, corner}
 use Rattle.vec_exact.proofs.Cycles.{turn}
 use Rattle.vec_exact.proofs.Identities.{inner_zero}
+use Rattle.vec_exact.specs.Face.{IsAcceptedFace}
 use Rattle.cone_laws.specs.Ring.{planes_of_pair, listed, IsRing}
+use Rattle.cone_laws.proofs.Pairs.{length-planes_of_pair}
+use Rattle.clip.specs.declared.outlines.Outline.{Outline}
+use Rattle.clip.specs.Outlines.{nodes_of, IsOutline, AreNumbersOf}
+use Rattle.clip.proofs.RingFacts.{ring_greatest_size}
 use Rattle.piece_measure.specs.Grid.{grid_corner_of, grid_corners_of}
 
 -- the grid corners of the first t places of a cycle of k planes
@@ -58,3 +63,11 @@ settled false e = cc
 
 pub same_triple : (x y : List ℤ) → false ≡ not (pointwise int_eq x y) → x ≡ y
 same_triple x y told = (signed_items x y).0 (settled (pointwise int_eq x y) told)
+
+-- the numbers of the ring of two faces are those of planes of the two outlines that have their nodes
+pub ring_numbers : (e h : Outline) (f g : List Vec3) (l : List ℕ) → nodes_of e ≡ f → nodes_of h ≡ g → IsOutline e → IsOutline h → IsRing f g l → AreNumbersOf e h l
+ring_numbers e h f g l p q a b r = record {
+  least = r.cycle.least_number;
+  greatest = λ t lt. omega (arith, r.cycle.greatest_number t lt, length-planes_of_pair f g, ap (length {A = Vec3}) p, ap (length {A = Vec3}) q);
+  few = ring_greatest_size f g l (subst IsAcceptedFace p a.accepted) (subst IsAcceptedFace q b.accepted) r;
+}

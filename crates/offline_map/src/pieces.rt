@@ -1,45 +1,68 @@
 // The test of each piece that an overlap lists, and its row.
 ghost use Rattle.std.specs.Prelude.{◌≡◌, ◌≢◌, ◌↔◌, ℕ, ◌<◌, ◌≤◌, All, length, map, IsTrue, IfOk, IfErr, OnOk, MatchOption};
+ghost use Rattle.vec_exact.specs.declared.Vec3.{Vec3 as Triple};
 ghost use Rattle.vec_exact.specs.Vector.{zero_triple};
 ghost use Rattle.vec_exact.specs.Cycle.{corner as corner_of};
-ghost use Rattle.cone_laws.specs.Ring.{listed};
-ghost use Rattle.clip.specs.Planes.{AreNumbers, EachIs37};
+ghost use Rattle.mesh_check.specs.Mesh.{corners_of};
+ghost use Rattle.cone_laws.specs.Ring.{listed, planes_of_pair, IsRing};
+ghost use Rattle.clip.specs.Outlines.{nodes_of, IsOutline, AreNumbersOf};
+ghost use Rattle.clip.specs.Forms.{IsFormOf};
 ghost use Rattle.clip.specs.Overlaps.{IsSoundPiece};
-ghost use Rattle.piece_measure.specs.Grid.{IsOnGrid, grid_corners_of};
+ghost use Rattle.piece_measure.specs.Grid.{IsOnGrid, grid_corner_of, grid_corners_of};
 ghost use Rattle.offline_map.specs.Maps.{row_of};
 ghost use Rattle.offline_map.specs.MapFaults.{IsRightPiece, IsFaultOfPieces};
 
 use crate::MapFault;
-use clip::{Piece, PlaneList, Ring, corner, is_ring, planes};
+use clip::{CornerForm, Outline, Piece, Ring, corner_form, is_ring, read_outline};
 use map_rows::MapRow;
 use mesh_check::Mesh;
-use piece_measure::{grid_corner, measure};
+use piece_measure::{grid_corner, grid_node, measure};
 use std::alloc::Global;
 
-// Whether these are the grid corners of a ring, in the order of the ring. None of its corners is
-// zero.
-fn are_grid_corners(planes: &PlaneList, ring: &Ring, corners: &[[i32; 3]]) -> bool
-    requires numbers { AreNumbers planes.now.items ring.now.items }
-    requires size { EachIs37 planes.now.items (length planes.now.items) }
+// A corner of a ring on the grid.
+fn grid_of_form(form: CornerForm) -> [i32; 3]
+    requires { (c : Triple) × (c ≢ zero_triple) × IsFormOf form c }
+    ensures value { (c : Triple) → IsFormOf form c → result ≡ grid_corner_of c }
+    ensures on_grid { IsOnGrid result }
+{
+    match form {
+        CornerForm::Node(node) => grid_node(node),
+        CornerForm::Meeting(corner) => grid_corner(corner),
+    }
+}
+
+// Whether these are the grid corners of the ring of two faces, in the order of the ring. None of its
+// corners is zero.
+fn are_grid_corners(f: &Outline, g: &Outline, ring: &Ring, corners: &[[i32; 3]]) -> bool
+    requires f { IsOutline f.now }
+    requires g { IsOutline g.now }
+    requires numbers { AreNumbersOf f.now g.now ring.now.items }
     requires nonzero { (t : ℕ) → t < length ring.now.items
-        → corner_of (length ring.now.items) (listed planes.now.items ring.now.items) t
-        ≢ zero_triple }
+        → let planes = planes_of_pair (nodes_of f.now) (nodes_of g.now) in
+        corner_of (length ring.now.items) (listed planes ring.now.items) t ≢ zero_triple }
     requires count { length corners.now ≡ length ring.now.items }
-    requires few { length ring.now.items ≤ 32 }
-    ensures exactly { IsTrue result ↔ (corners.now
-        ≡ grid_corners_of (length ring.now.items) (listed planes.now.items ring.now.items)) }
+    ensures exactly { let planes = planes_of_pair (nodes_of f.now) (nodes_of g.now) in
+        IsTrue result ↔ (corners.now
+        ≡ grid_corners_of (length ring.now.items) (listed planes ring.now.items)) }
     ensures on_grid { IsTrue result → All IsOnGrid corners.now }
 {
     for (t, triple) in corners.iter().enumerate() {
-        if *triple != grid_corner(corner(planes, ring, t as u32 + 1)) {
+        if *triple != grid_of_form(corner_form(f, g, ring, t)) {
             return false;
         }
     }
     true
 }
 
+// Two faces, one of each mesh, that are read anew for each piece.
+#[derive(Drop)]
+pub struct Pair {
+    source: Outline,
+    target: Outline,
+}
+
 // Whether the piece has the ring of its two faces, and the grid corners of that ring.
-fn is_right(a: &Mesh, b: &Mesh, piece: &Piece) -> bool
+fn is_right(a: &Mesh, b: &Mesh, piece: &Piece, pair: &mut Pair) -> bool
     requires { IsSoundPiece (length a.now.faces) (length b.now.faces) piece.now }
     ensures exactly { IsTrue result ↔ IsRightPiece a.now b.now piece.now }
     ensures on_grid { IsTrue result → All IsOnGrid piece.now.corners }
@@ -47,17 +70,19 @@ fn is_right(a: &Mesh, b: &Mesh, piece: &Piece) -> bool
     if !is_ring(a, piece.a, b, piece.b, &piece.ring) {
         return false;
     }
-    let planes = planes(a, piece.a, b, piece.b);
-    are_grid_corners(&planes, &piece.ring, piece.corners.items.as_slice())
+    read_outline(a, piece.a, &mut pair.source);
+    read_outline(b, piece.b, &mut pair.target);
+    let corners = piece.corners.items.as_slice();
+    are_grid_corners(&pair.source, &pair.target, &piece.ring, corners)
 }
 
 // The row of a piece that is right.
-fn tested_row(a: &Mesh, b: &Mesh, piece: &Piece) -> Option<MapRow>
+fn tested_row(a: &Mesh, b: &Mesh, piece: &Piece, pair: &mut Pair) -> Option<MapRow>
     requires { IsSoundPiece (length a.now.faces) (length b.now.faces) piece.now }
     ensures { MatchOption result (¬ IsRightPiece a.now b.now piece.now)
         (λ row. IsRightPiece a.now b.now piece.now × (row ≡ row_of piece.now)) }
 {
-    if !is_right(a, b, piece) {
+    if !is_right(a, b, piece, pair) {
         return None;
     }
     Some(MapRow {
@@ -81,8 +106,12 @@ pub fn tested_rows(
     ensures fault { IfErr result (λ fault. IsFaultOfPieces a.now b.now pieces.now fault) }
 {
     let mut rows = Vec::with_capacity(alloc, pieces.len())?;
+    let mut pair = Pair {
+        source: Outline::new(),
+        target: Outline::new(),
+    };
     for (i, piece) in pieces.iter().enumerate() {
-        let Some(row) = tested_row(a, b, piece) else {
+        let Some(row) = tested_row(a, b, piece, &mut pair) else {
             return Err(MapFault::Row(i as u32 + 1));
         };
         rows.push(row)?;
