@@ -46,18 +46,6 @@ pub fn planes(a: &Mesh, i: u32, b: &Mesh, j: u32) -> PlaneList
     planes
 }
 
-// The ring of two faces, where they meet.
-fn ring_of_pair(a: &Mesh, i: u32, b: &Mesh, j: u32) -> Option<Ring>
-    requires source { IsFaceNumber a.now i }
-    requires target { IsFaceNumber b.now j }
-    ensures ring { MatchOption result (¬ Meets (corners_of a.now i) (corners_of b.now j))
-        (λ ring. IsRing (corners_of a.now i) (corners_of b.now j) ring.items) }
-    ensures source { IsAcceptedFace (corners_of a.now i) }
-    ensures target { IsAcceptedFace (corners_of b.now j) }
-{
-    ring_of_outlines(&outline_of(a, i), &outline_of(b, j))
-}
-
 /// The ring of face `i` of `a` and face `j` of `b`, where a direction is inside both; faces count
 /// from 1. It is None exactly where no direction is inside both. It takes one step.
 ///
@@ -109,6 +97,19 @@ pub fn clip_outlines<L: Ledger>(
     ring_of_outlines(f, g)
 }
 
+/// Whether `ring` is the ring of two faces that were read, first the edges of `f`, then those of `g`.
+/// A number in `ring` that is 0 or past the planes of the pair is a case of false.
+pub fn is_ring_of_outlines(f: &Outline, g: &Outline, ring: &Ring) -> bool
+    requires f { IsOutline f.now }
+    requires g { IsOutline g.now }
+    ensures { IsTrue result ↔ IsRing (nodes_of f.now) (nodes_of g.now) ring.now.items }
+{
+    match ring_of_outlines(f, g) {
+        None => false,
+        Some(found) => found.as_slice() == ring.as_slice(),
+    }
+}
+
 /// Whether `ring` is the ring of face `i` of `a` and face `j` of `b`; faces count from 1. A number
 /// in `ring` that is 0 or past the planes of the pair is a case of false.
 pub fn is_ring(a: &Mesh, i: u32, b: &Mesh, j: u32, ring: &Ring) -> bool
@@ -116,8 +117,5 @@ pub fn is_ring(a: &Mesh, i: u32, b: &Mesh, j: u32, ring: &Ring) -> bool
     requires target { IsFaceNumber b.now j }
     ensures { IsTrue result ↔ IsRing (corners_of a.now i) (corners_of b.now j) ring.now.items }
 {
-    match ring_of_pair(a, i, b, j) {
-        None => false,
-        Some(found) => found.as_slice() == ring.as_slice(),
-    }
+    is_ring_of_outlines(&outline_of(a, i), &outline_of(b, j), ring)
 }

@@ -11,7 +11,6 @@ use Rattle.vec_exact.specs.Vector.{zero_triple, inner}
 use Rattle.vec_exact.specs.Cycle.{after, corner}
 use Rattle.vec_exact.proofs.Cycles.{turn}
 use Rattle.vec_exact.proofs.Identities.{inner_zero}
-use Rattle.vec_exact.specs.Face.{IsAcceptedFace}
 use Rattle.cone_laws.specs.Ring.{planes_of_pair, listed, IsRing}
 use Rattle.cone_laws.proofs.Pairs.{length-planes_of_pair}
 use Rattle.clip.specs.declared.outlines.Outline.{Outline}
@@ -64,10 +63,10 @@ settled false e = cc
 pub same_triple : (x y : List ℤ) → false ≡ not (pointwise int_eq x y) → x ≡ y
 same_triple x y told = (signed_items x y).0 (settled (pointwise int_eq x y) told)
 
--- the numbers of the ring of two faces are those of planes of the two outlines that have their nodes
-pub ring_numbers : (e h : Outline) (f g : List Vec3) (l : List ℕ) → nodes_of e ≡ f → nodes_of h ≡ g → IsOutline e → IsOutline h → IsRing f g l → AreNumbersOf e h l
-ring_numbers e h f g l p q a b r = record {
+-- the numbers of the ring of two outlines are those of their planes
+pub ring_numbers : (e h : Outline) (l : List ℕ) → IsOutline e → IsOutline h → IsRing (nodes_of e) (nodes_of h) l → AreNumbersOf e h l
+ring_numbers e h l a b r = record {
   least = r.cycle.least_number;
-  greatest = λ t lt. omega (arith, r.cycle.greatest_number t lt, length-planes_of_pair f g, ap (length {A = Vec3}) p, ap (length {A = Vec3}) q);
-  few = ring_greatest_size f g l (subst IsAcceptedFace p a.accepted) (subst IsAcceptedFace q b.accepted) r;
+  greatest = λ t lt. omega (arith, r.cycle.greatest_number t lt, length-planes_of_pair (nodes_of e) (nodes_of h));
+  few = ring_greatest_size (nodes_of e) (nodes_of h) l a.accepted b.accepted r;
 }

@@ -13,7 +13,7 @@ ghost use Rattle.offline_map.specs.Maps.{row_of};
 ghost use Rattle.offline_map.specs.MapFaults.{IsRightPiece, IsFaultOfPieces};
 
 use crate::MapFault;
-use clip::{CornerForm, Outline, Piece, Ring, corner_form, is_ring, read_outline};
+use clip::{CornerForm, Outline, Piece, Ring, corner_form, is_ring_of_outlines, read_outline};
 use map_rows::MapRow;
 use mesh_check::Mesh;
 use piece_measure::{grid_corner, grid_node, measure};
@@ -67,11 +67,11 @@ fn is_right(a: &Mesh, b: &Mesh, piece: &Piece, pair: &mut Pair) -> bool
     ensures exactly { IsTrue result ↔ IsRightPiece a.now b.now piece.now }
     ensures on_grid { IsTrue result → All IsOnGrid piece.now.corners }
 {
-    if !is_ring(a, piece.a, b, piece.b, &piece.ring) {
-        return false;
-    }
     read_outline(a, piece.a, &mut pair.source);
     read_outline(b, piece.b, &mut pair.target);
+    if !is_ring_of_outlines(&pair.source, &pair.target, &piece.ring) {
+        return false;
+    }
     let corners = piece.corners.items.as_slice();
     are_grid_corners(&pair.source, &pair.target, &piece.ring, corners)
 }

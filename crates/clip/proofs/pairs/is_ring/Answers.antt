@@ -1,31 +1,13 @@
-use Rattle.std.proofs.Common.{length, IsTrue, false, subst, sym, ◌∙◌}
-use Rattle.std.proofs.lemmas.Slice.Eq.{slice_eq-Decides}
-use Rattle.std.proofs.lemmas.Bool.Decides.{Decides-eqb}
-use Rattle.vec_exact.proofs.Accepted.{accepted_convex}
-use Rattle.cone_laws.specs.Ring.{planes_of_pair, IsRing}
-use Rattle.cone_laws.proofs.Pairs.{ring_meets}
-use Rattle.cone_laws.proofs.Unique.{unique}
+use Rattle.std.proofs.Common.{◌↔◌, List, IsTrue, subst}
+use Rattle.vec_exact.specs.declared.Vec3.{Vec3}
+use Rattle.cone_laws.specs.Ring.{IsRing}
 use Rattle.mesh_check.specs.Mesh.{corners_of}
+use Rattle.clip.specs.Outlines.{nodes_of}
 use Rattle.clip.proofs.pairs.is_ring.Goals as goal
 
-untrue : IsTrue false → ⊥
-untrue e = cc
-
-pub returns-in-None : goal.returns-in-None
-returns-in-None c =
-    let f = corners_of c.args.a.now c.args.i in
-    let g = corners_of c.args.b.now c.args.j in
-    let d = c.ring_of_pair.ensures in
-    (λ t. absurd (untrue t), λ r. absurd (c.in-None.ensures.ring (ring_meets f g c.args.ring.now.items (accepted_convex f d.source) (accepted_convex g d.target) r)))
-
-pub returns-in-Some : goal.returns-in-Some
-returns-in-Some c =
-    let f = corners_of c.args.a.now c.args.i in
-    let g = corners_of c.args.b.now c.args.j in
-    let ps = planes_of_pair f g in
-    let a = c.as_slice.ensures.value in
-    let b = c.as_slice-in-Some.ensures.value in
-    let d = slice_eq-Decides Decides-eqb c.as_slice.result.now c.as_slice-in-Some.result.now c.eq.result c.eq.ensures in (
-      λ t. subst (IsRing f g) (sym a ∙ d.0 t ∙ b) c.in-Some.ensures.ring,
-      λ r. d.1 (a ∙ unique ps (length ps) c.in-Some.found.items c.args.ring.now.items c.in-Some.ensures.ring r ∙ sym b),
-    )
+pub returns : goal.returns
+returns c =
+    let r = c.args.ring.now.items in
+    let t = c.is_ring_of_outlines.result in
+    subst (λ (g : List Vec3). IsTrue t ↔ IsRing (corners_of c.args.a.now c.args.i) g r) c.outline_of-2.ensures.nodes
+    (subst (λ (f : List Vec3). IsTrue t ↔ IsRing f (nodes_of c.outline_of-2.result) r) c.outline_of.ensures.nodes c.is_ring_of_outlines.ensures)
