@@ -11,3 +11,4 @@ pub mod Searches
 pub mod FirstBoxes
 pub mod Ascending
 pub mod CandidateLists
+pub mod SeenPlaced

@@ -4,3 +4,4 @@ pub mod CandidateList
 pub mod Fineness
 pub mod IndexOf
 pub mod Kept
+pub mod Panels

@@ -18,7 +18,9 @@ mod tests;
 
 pub use face_boxes::{boxes_of, fineness};
 pub use index::{Index, build, candidates, find_candidates};
-pub use laws::{law_candidates_of, law_meets_is_candidate, law_sharers_are_candidates};
+pub use laws::{
+    law_candidates_of, law_meets_is_candidate, law_seen_is_placed, law_sharers_are_candidates,
+};
 
 /// A box of cells of a panel: those whose first number is from `u0` to `u1` and whose second is
 /// from `v0` to `v1`. At the fineness k the numbers of cells go from -k to k - 1.
