@@ -10,7 +10,7 @@ mod OverlapAgain
 mod Taken
 mod ColumnCounts
 pub mod MapLength
-mod FoundMap
+pub mod FoundMap
 mod MapFaults
-mod ReadMaps
+pub mod ReadMaps
 mod MapAgain

@@ -1,0 +1,3 @@
+pub mod MapFile
+pub mod Numbers
+pub mod Refusals
