@@ -1,0 +1,2 @@
+pub mod DataFile
+pub mod Refusals
