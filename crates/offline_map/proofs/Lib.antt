@@ -1,3 +1,3 @@
 mod RightPieces
 pub mod FirstFaults
-mod Made
+pub mod Made

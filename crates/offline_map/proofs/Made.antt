@@ -14,7 +14,7 @@ use Rattle.map_rows.specs.Maps.{measure_of, sum_at, areas_of, source_of, target_
 use Rattle.map_rows.proofs.FaceSums.{differ, length-sums_of, get_or-sums_of, sum_at-none, sum_at-cons}
 use Rattle.offline_map.specs.declared.faults.MapFault.{MapFault}
 use Rattle.offline_map.specs.declared.faults.MapFault.TheVariants.{CountsA, CountsB, Row, Uncovered, NoMemory}
-use Rattle.offline_map.specs.Maps.{row_of}
+use Rattle.offline_map.specs.Maps.{row_of, map_of}
 use Rattle.offline_map.specs.MapFaults.{IsRightPiece, HasCountsOf, HasRow, IsFaultOfAreas, IsMapFaultOf}
 use Rattle.offline_map.proofs.FirstFaults.{no_piece}
 
@@ -162,3 +162,15 @@ sound_map o n_a n_b rows area_a area_b s source target e source_areas target_are
   target_areas = target_areas;
   covered = covered;
 }
+
+areas_covered : (o : OverlapParts) → ((j : ℕ) → 1 ≤ j → j ≤ o.faces_b → HasRow o.pieces j) → All (λ (area : ℤ). pos 1 ≤ℤ area) (areas_of target_of o.faces_b (map row_of o.pieces))
+areas_covered o covered k d below =
+    let areas = areas_of target_of o.faces_b (map row_of o.pieces) in
+    let size = size_of_areas o areas refl in
+    let r = covered (k + 1) (omega arith) (omega (arith, below, size)) in
+    let here = area_at o areas k (k + 1) d refl (omega (arith, below, size)) (omega arith) in
+    subst (λ (x : ℤ). pos 1 ≤ℤ x) (sym here) (has_area o.pieces (k + 1) r.0 r.1 r.2 r.3 r.4)
+
+-- where each target face has a row, the map of an overlap keeps what every map keeps
+pub map_is_sound : (o : OverlapParts) → IsSoundOverlap o → ((j : ℕ) → 1 ≤ j → j ≤ o.faces_b → HasRow o.pieces j) → IsSoundMap (map_of o)
+map_is_sound o sound covered = sound_map o o.faces_a o.faces_b (map row_of o.pieces) _ _ sound refl refl refl refl refl (areas_covered o covered)

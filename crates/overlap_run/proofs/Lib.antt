@@ -5,6 +5,7 @@ mod FaceSteps
 mod RunSteps
 mod WholeSteps
 mod RingCorners
+pub mod SoundWhole
 mod ClipCounts
 mod NumberedBlocks
 mod Stretches

@@ -38,7 +38,7 @@ pub all_corners : (k : ℕ) (n : ℕ → Vec3) (t : ℕ) → t ≡ k → first_c
 unfolding grid_corners_of
 all_corners k n t e = ap (first_corners k n) e
 
-length-grid_corners : (k : ℕ) (n : ℕ → Vec3) → length (grid_corners_of k n) ≡ k
+pub length-grid_corners : (k : ℕ) (n : ℕ → Vec3) → length (grid_corners_of k n) ≡ k
 unfolding grid_corners_of
 length-grid_corners k n = length-map-range_with_len (λ (u : ℕ). grid_corner_of (corner k n u)) 0 k
 

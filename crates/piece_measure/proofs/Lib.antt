@@ -1,5 +1,5 @@
 mod Guess
-mod Rounding
+pub mod Rounding
 pub mod Multiples
 mod Sizes
 mod Series

@@ -1,0 +1,13 @@
+//! The whole chain in memory: overlap, map and field of two meshes.
+#![tactic(auto)]
+
+mod faults;
+mod laws;
+mod steps;
+#[cfg(test)]
+mod tests;
+mod whole;
+
+pub use faults::ChainFault;
+pub use laws::law_one_chain;
+pub use whole::{ChainOut, chain};
