@@ -177,14 +177,6 @@ const FEW: [Made; 8] = [
     Made::Dual(2),
 ];
 
-// One mesh of each kind.
-const KINDS: [Made; 4] = [
-    Made::Cube(1),
-    Made::LatitudeLongitude(3, 2),
-    Made::Icosahedral(1),
-    Made::Dual(1),
-];
-
 // The first face; every fifth; every other one; all but the first.
 const GAPS: [Gaps; 4] = [
     Gaps {
@@ -243,7 +235,7 @@ fn faces_left_out_are_not_covered(rt: HostRuntime) {
 
 // A mesh with gaps doesn't cover all faces of a mesh that tiles the sphere.
 fn assert_gaps_show(rt: &impl Abort, alloc: Global, rest: &Mesh) {
-    for other in KINDS {
+    for other in FEW {
         let b = mesh_of(rt, alloc, other);
         let count = count(rt, alloc, rest, &b);
         assert!(rt; count.first != 0, "{other:?}");
