@@ -17,15 +17,15 @@ fn is_small(x: i128) -> bool
     x.unsigned_abs() <= 37_778_931_862_957_161_709_567
 }
 
-// Whether the size of the direction lets its sides be asked. It does in all these meshes.
-fn is_short(d: Vec3) -> bool
+/// Whether the size of the direction lets its sides be asked. It does in all these meshes.
+pub(crate) fn is_short(d: Vec3) -> bool
     ensures { IsTrue result → Is75 d }
 {
     is_small(d.x) && is_small(d.y) && is_small(d.z)
 }
 
-// The direction is on the positive side of every edge plane of the face.
-fn is_inside(mesh: &Mesh, face: u32, d: Vec3) -> bool
+/// The direction is on the positive side of every edge plane of the face.
+pub(crate) fn is_inside(mesh: &Mesh, face: u32, d: Vec3) -> bool
     requires face { (1 ≤ face) × (face ≤ length mesh.now.faces) }
     requires size { Is75 d }
 {
@@ -37,8 +37,8 @@ fn is_inside(mesh: &Mesh, face: u32, d: Vec3) -> bool
     true
 }
 
-// The direction is on the negative side of no edge plane of the face.
-fn is_in_closure(mesh: &Mesh, face: u32, d: Vec3) -> bool
+/// The direction is on the negative side of no edge plane of the face.
+pub(crate) fn is_in_closure(mesh: &Mesh, face: u32, d: Vec3) -> bool
     requires face { (1 ≤ face) × (face ≤ length mesh.now.faces) }
     requires size { Is75 d }
 {
@@ -62,7 +62,7 @@ fn is_in_some_closure(mesh: &Mesh, d: Vec3) -> bool
     false
 }
 
-fn index(rt: &impl Abort, alloc: Global, a: &Mesh) -> Index
+pub(crate) fn index(rt: &impl Abort, alloc: Global, a: &Mesh) -> Index
     ensures { IsIndexOf result a.now }
 {
     let Ok(index) = build(alloc, a) else {
@@ -71,7 +71,7 @@ fn index(rt: &impl Abort, alloc: Global, a: &Mesh) -> Index
     index
 }
 
-fn direction(
+pub(crate) fn direction(
     rt: &impl Abort,
     alloc: Global,
     a: &Mesh,

@@ -6,7 +6,11 @@ use std::alloc::{AllocError, Global};
 use std::test::Fail;
 use vec_exact::{Faces, Ints, Nodes, RawMesh, Vec3};
 
-fn one_face(alloc: Global, nodes: &[[i32; 3]], face: &[i32]) -> Result<RawMesh, AllocError>
+pub(crate) fn one_face(
+    alloc: Global,
+    nodes: &[[i32; 3]],
+    face: &[i32],
+) -> Result<RawMesh, AllocError>
     ensures nodes { IfOk result (λ raw. length raw.nodes ≡ length nodes.now) }
     ensures faces { IfOk result (λ raw. length raw.faces ≡ 1) }
 {

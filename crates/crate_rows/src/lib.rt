@@ -13,6 +13,8 @@ mod generated;
 #[cfg(test)]
 mod meshes;
 #[cfg(test)]
+mod rest;
+#[cfg(test)]
 mod small;
 #[cfg(test)]
 mod words;

@@ -33,8 +33,8 @@ pub(crate) const MADE: [Made; 14] = [
     Made::Dual(2),
 ];
 
-// The mesh of these nodes and faces, which are few.
-fn accepted(rt: &impl Abort, alloc: Global, raw: RawMesh) -> Mesh {
+/// The mesh of these nodes and faces, which are few.
+pub(crate) fn accepted(rt: &impl Abort, alloc: Global, raw: RawMesh) -> Mesh {
     assert!(rt; raw.nodes.items.len() <= 1000);
     assert!(rt; 1 <= raw.faces.items.len() && raw.faces.items.len() <= 1000);
     let Ok(mesh) = check(alloc, raw) else {
