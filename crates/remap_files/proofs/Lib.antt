@@ -6,11 +6,11 @@ mod GoodRows
 pub mod FoundOverlap
 pub mod ReadOverlaps
 mod RowsAgain
-mod OverlapAgain
+pub mod OverlapAgain
 mod Taken
 mod ColumnCounts
 pub mod MapLength
 pub mod FoundMap
 mod MapFaults
 pub mod ReadMaps
-mod MapAgain
+pub mod MapAgain

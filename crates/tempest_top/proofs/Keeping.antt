@@ -153,7 +153,9 @@ own_usage (Some (Overlap a b out workers)) text (inl h) = absurd (let e = h.0 in
 own_usage (Some (Overlap a b out workers)) text (inr h) = absurd (let e = h.0 in cc)
 own_usage (Some (OfflineMap in_mesh out_mesh ov_mesh out_map)) text h = absurd ((map_not h.0).0 h.2)
 own_usage (Some (Apply map var in_data out_data masked)) text h = refl
-own_usage (Some (SelfRun n workers)) text h = refl
+own_usage (Some (SelfRun n workers)) text (inl h) = absurd (let e = h.0 in cc)
+own_usage (Some (SelfRun n workers)) text (inr (inl h)) = absurd (let e = h.0 in cc)
+own_usage (Some (SelfRun n workers)) text (inr (inr h)) = absurd (let e = h.0 in cc)
 own_usage (Some (Coverage a b)) text h = absurd h
 own_usage (Some (Check file workers)) text h = absurd (let e = h.0 in cc)
 
@@ -170,7 +172,9 @@ own_no_file (Some (Overlap a b out workers)) text (inl h) = let e = h.0 in absur
 own_no_file (Some (Overlap a b out workers)) text (inr h) = let e = h.0 in absurd cc
 own_no_file (Some (OfflineMap in_mesh out_mesh ov_mesh out_map)) text h = (map_not h.0).1 h.2
 own_no_file (Some (Apply map var in_data out_data masked)) text h = let e = h.0 in absurd cc
-own_no_file (Some (SelfRun n workers)) text h = let e = h.0 in absurd cc
+own_no_file (Some (SelfRun n workers)) text (inl h) = let e = h.0 in absurd cc
+own_no_file (Some (SelfRun n workers)) text (inr (inl h)) = let e = h.0 in absurd cc
+own_no_file (Some (SelfRun n workers)) text (inr (inr h)) = let e = h.0 in absurd cc
 own_no_file (Some (Coverage a b)) text h = h
 own_no_file (Some (Check file workers)) text h = let e = h.0 in absurd cc
 
@@ -281,7 +285,7 @@ usage_text (Some (Ico res dual file)) h = absurd cc
 usage_text (Some (Overlap a b out workers)) h = absurd cc
 usage_text (Some (OfflineMap in_mesh out_mesh ov_mesh out_map)) h = absurd cc
 usage_text (Some (Apply map var in_data out_data masked)) h = (refl, refl)
-usage_text (Some (SelfRun n workers)) h = (refl, refl)
+usage_text (Some (SelfRun n workers)) h = absurd cc
 usage_text (Some (Coverage a b)) h = absurd cc
 usage_text (Some (Check file workers)) h = absurd cc
 

@@ -5,9 +5,9 @@ mod Gaining
 mod Keeping
 mod MapEnds
 mod MapTexts
-mod OnePair
 pub mod Outcomes
 mod Pieces
+mod SelfRunEnds
 mod ThreeFiles
 mod TwoMeshes
 mod Written

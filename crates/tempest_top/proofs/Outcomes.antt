@@ -1,5 +1,5 @@
 -- A command has at most one outcome, and which outcomes there are.
-use Rattle.std.proofs.Common.{◌≡◌, ◌∙◌, ℕ, List, length, true, Option, Some, None, refl, sym, ap, subst, inl, inr, arith}
+use Rattle.std.proofs.Common.{◌≡◌, ◌∙◌, ℕ, ℤ, List, length, true, Option, Some, None, refl, sym, ap, subst, inl, inr, arith}
 use Rattle.vec_exact.specs.declared.RawMesh.{RawMesh}
 use Rattle.remap_io.specs.Folder.{Folder}
 use Rattle.nc_write.specs.declared.NcDoc.{NcDoc}
@@ -19,14 +19,18 @@ use Rattle.cover_check.specs.declared.counting.CoverCount.{CoverCount}
 use Rattle.cover_check.proofs.OneCount.{one_cover_count}
 use Rattle.mesh_partition.specs.declared.reporting.MeshReport.{MeshReport}
 use Rattle.mesh_partition.proofs.OneReport.{one_mesh_report}
+use Rattle.remap_chain.specs.declared.whole.ChainOut.{ChainOut}
+use Rattle.remap_chain.specs.declared.faults.ChainFault.TheVariants as of_chain
+use Rattle.remap_chain.proofs.OnePair.{one_count, one_overlap, count_of_overlap}
+use Rattle.remap_chain.proofs.OneField.{same_chain, same_fault, no_fault}
 use Rattle.command_line.specs.declared.choices.Chosen.{Chosen}
 use Rattle.command_line.specs.declared.choices.Chosen.TheVariants.{Cs, Rll, Ico, Overlap, OfflineMap, Apply, SelfRun, Coverage, Check}
-use Rattle.tempest_top.specs.declared.status.Status.TheVariants.{Limit}
+use Rattle.tempest_top.specs.declared.status.Status.TheVariants.{Uncovered, Limit}
 use Rattle.tempest_top.specs.Lines.{pieces_text, coverage_text, report_text}
+use Rattle.tempest_top.specs.SelfRuns.{values_of_faces, chain_text}
 use Rattle.tempest_top.specs.Faults.{FileWords, status_of, text_of, mesh_words, too_many_pieces_text}
-use Rattle.tempest_top.specs.MapFaults.{overlap_words, status_of_map_fault, map_fault_text}
-use Rattle.tempest_top.specs.Outcome.{Outcome, IsOutcome, IsOutcomeOfMade, IsOutcomeOfDocument, IsOutcomeOfPair, IsOutcomeOfMap, IsOutcomeOfCoverage, IsOutcomeOfReport, AfterFile, text_alone, refusal, fault_of_made, mesh_written, is_usage, usage}
-use Rattle.tempest_top.proofs.OnePair.{one_count, one_overlap, count_of_overlap}
+use Rattle.tempest_top.specs.MapFaults.{overlap_words, status_of_map_fault, map_fault_text, uncovered_text}
+use Rattle.tempest_top.specs.Outcome.{Outcome, IsOutcome, IsOutcomeOfMade, IsOutcomeOfDocument, IsOutcomeOfPair, IsOutcomeOfMap, IsOutcomeOfCoverage, IsOutcomeOfReport, IsOutcomeOfChain, IsOutcomeOfSelfRun, AfterFile, text_alone, refusal, fault_of_made, mesh_written, is_usage, usage}
 
 -- what two outcomes are equal to
 same : (o p q : Outcome) → o ≡ q → p ≡ q → o ≡ p
@@ -80,6 +84,26 @@ one_report mesh m o p (inr a) (inr b) =
     let (s, right, f) = b.1 in
     e ∙ ap (λ (report : MeshReport). text_alone (report_text (length mesh.faces) report) m) (one_mesh_report mesh r s is right) ∙ sym f
 
+-- and so has the whole chain
+one_chain : (source target : RawMesh) (values : List ℤ) (m : Option Folder) (o p : Outcome) → IsOutcomeOfChain source target values m o → IsOutcomeOfChain source target values m p → o ≡ p
+one_chain source target values m o p (inl a) (inl b) = a.2 ∙ ap (λ (n : ℕ). refusal Limit (too_many_pieces_text n) m) (one_count source target a.0 b.0 a.1.0 b.1.0) ∙ sym b.2
+one_chain source target values m o p (inl a) (inr (inl b)) = absurd (let e = same_fault source target values (of_chain.TooManyPieces a.0) (of_chain.Uncovered b.0) a.1 b.1 in cc)
+one_chain source target values m o p (inl a) (inr (inr b)) = absurd (no_fault source target values b.0 (of_chain.TooManyPieces a.0) b.1 a.1)
+one_chain source target values m o p (inr (inl a)) (inl b) = absurd (let e = same_fault source target values (of_chain.Uncovered a.0) (of_chain.TooManyPieces b.0) a.1 b.1 in cc)
+one_chain source target values m o p (inr (inl a)) (inr (inl b)) =
+    let same_face : a.0 ≡ b.0 = let e = same_fault source target values (of_chain.Uncovered a.0) (of_chain.Uncovered b.0) a.1 b.1 in cc in
+    a.2 ∙ ap (λ (j : ℕ). refusal Uncovered (uncovered_text j) m) same_face ∙ sym b.2
+one_chain source target values m o p (inr (inl a)) (inr (inr b)) = absurd (no_fault source target values b.0 (of_chain.Uncovered a.0) b.1 a.1)
+one_chain source target values m o p (inr (inr a)) (inl b) = absurd (no_fault source target values a.0 (of_chain.TooManyPieces b.0) a.1 b.1)
+one_chain source target values m o p (inr (inr a)) (inr (inl b)) = absurd (no_fault source target values a.0 (of_chain.Uncovered b.0) a.1 b.1)
+one_chain source target values m o p (inr (inr a)) (inr (inr b)) = a.2 ∙ ap (λ (out : ChainOut). text_alone (chain_text source target values out) m) (same_chain source target values a.0 b.0 a.1 b.1) ∙ sym b.2
+
+one_self_run : (source target : RawMesh) (m : Option Folder) (o p : Outcome) → IsOutcomeOfSelfRun source target m o → IsOutcomeOfSelfRun source target m p → o ≡ p
+one_self_run source target m o p (inl a) (inl b) = a.2 ∙ ap (λ (fault : MeshFault). fault_of_made fault m) (same_first_fault target a.0 b.0 a.1 b.1) ∙ sym b.2
+one_self_run source target m o p (inl a) (inr b) = absurd (b.0 a.0 a.1)
+one_self_run source target m o p (inr a) (inl b) = absurd (a.0 b.0 b.1)
+one_self_run source target m o p (inr a) (inr b) = one_chain source target (values_of_faces (length source.faces)) m o p a.1 b.1
+
 -- and so has what follows a file, where what follows its content has
 pub one_after : {A C : Type 0} (words : FileWords A C) → IsLawful words.kind → (m : Option Folder) (file : List ℕ) (next : A → Outcome → Type 0) → ((content : A) (o p : Outcome) → next content o → next content p → o ≡ p)
     → (o p : Outcome) → AfterFile words m file next o → AfterFile words m file next p → o ≡ p
@@ -106,7 +130,7 @@ one_outcome (Some (OfflineMap in_mesh out_mesh ov_mesh out_map)) m o p e f =
     (λ target. one_after overlap_words overlap_law m ov_mesh (of_map source target) (λ overlap. one_map source target overlap ov_mesh out_map m)))
     o p e f
 one_outcome (Some (Apply map var in_data out_data masked)) m o p e f = same o p _ e f
-one_outcome (Some (SelfRun n workers)) m o p e f = same o p _ e f
+one_outcome (Some (SelfRun n workers)) m o p e f = one_self_run _ _ m o p e f
 one_outcome (Some (Coverage a b)) m o p e f =
     one_after mesh_words mesh_law m a (λ source. AfterFile mesh_words m b (λ target. IsOutcomeOfCoverage source target m))
     (λ source. one_after mesh_words mesh_law m b (λ target. IsOutcomeOfCoverage source target m) (λ target. one_coverage source target m)) o p e f
@@ -125,6 +149,6 @@ usage_outcome (Some (Ico res dual file)) m h = absurd cc
 usage_outcome (Some (Overlap a b out workers)) m h = absurd cc
 usage_outcome (Some (OfflineMap in_mesh out_mesh ov_mesh out_map)) m h = absurd cc
 usage_outcome (Some (Apply map var in_data out_data masked)) m h = refl
-usage_outcome (Some (SelfRun n workers)) m h = refl
+usage_outcome (Some (SelfRun n workers)) m h = absurd cc
 usage_outcome (Some (Coverage a b)) m h = absurd cc
 usage_outcome (Some (Check file workers)) m h = absurd cc

@@ -8,3 +8,4 @@ pub mod NameParts
 pub mod Outcome
 pub mod Promises
 pub mod Scene
+pub mod SelfRuns

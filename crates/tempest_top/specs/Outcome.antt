@@ -1,5 +1,5 @@
 -- What a command comes to, apart from faults of devices and want of memory.
-use Rattle.std.specs.Prelude.{◌≡◌, ◌⊎◌, ℕ, ◌<◌, ◌≤◌, List, [], length, Bool, true, false, codes, Option, Some, None, option_map}
+use Rattle.std.specs.Prelude.{◌≡◌, ◌⊎◌, ℕ, ◌*◌, ◌<◌, ◌≤◌, ℤ, List, [], length, Bool, true, false, codes, Option, Some, None, option_map}
 use Rattle.vec_exact.specs.declared.limits.TheConstants.{MAX_FILE_LEN, MAX_PIECES}
 use Rattle.vec_exact.specs.declared.RawMesh.{RawMesh}
 use Rattle.remap_io.specs.Folder.{Folder, with_file}
@@ -25,13 +25,17 @@ use Rattle.cover_check.specs.declared.counting.CoverCount.{CoverCount}
 use Rattle.cover_check.specs.CoveredTargets.{IsCoverCount}
 use Rattle.mesh_partition.specs.declared.reporting.MeshReport.{MeshReport}
 use Rattle.mesh_partition.specs.MeshReport.{IsMeshReportOf}
+use Rattle.remap_chain.specs.declared.whole.ChainOut.{ChainOut}
+use Rattle.remap_chain.specs.declared.faults.ChainFault.TheVariants as of_chain
+use Rattle.remap_chain.specs.Chains.{IsChainOf, IsChainFaultOf}
 use Rattle.command_line.specs.declared.choices.Chosen.{Chosen}
 use Rattle.command_line.specs.declared.choices.Chosen.TheVariants.{Cs, Rll, Ico, Overlap, OfflineMap, Apply, SelfRun, Coverage, Check}
 use Rattle.tempest_top.specs.declared.status.Status.{Status}
-use Rattle.tempest_top.specs.declared.status.Status.TheVariants.{Done, Usage, Mesh, Limit}
+use Rattle.tempest_top.specs.declared.status.Status.TheVariants.{Done, Usage, Mesh, Uncovered, Limit}
 use Rattle.tempest_top.specs.Lines.{mesh_text, pieces_text, map_text, coverage_text, report_text, line_of}
+use Rattle.tempest_top.specs.SelfRuns.{values_of_faces, chain_text}
 use Rattle.tempest_top.specs.Faults.{FileWords, status_of, text_of, mesh_words, mesh_fault_text, length_text, too_many_pieces_text}
-use Rattle.tempest_top.specs.MapFaults.{overlap_words, status_of_map_fault, map_fault_text}
+use Rattle.tempest_top.specs.MapFaults.{overlap_words, status_of_map_fault, map_fault_text, uncovered_text}
 use Rattle.tempest_top.specs.Inputs.{inputs_of, AreTold}
 
 -- The output file of a command: its name and its new bytes.
@@ -113,6 +117,19 @@ IsOutcomeOfReport mesh m o =
     ((n : ℕ) × IsPairCount mesh mesh n × (8388608 < n) × (o ≡ refusal Limit (too_many_pieces_text n) m))
     ⊎ (((n : ℕ) → IsPairCount mesh mesh n → n ≤ 8388608) × ((report : MeshReport) × IsMeshReportOf mesh report × (o ≡ text_alone (report_text (length mesh.faces) report) m)))
 
+-- What the chain gives of two meshes and the values at the source faces is told, unless more than 8,388,608 pairs of faces meet or a target face meets none.
+abbrev pub IsOutcomeOfChain : RawMesh → RawMesh → List ℤ → Option Folder → Outcome → Type 0
+IsOutcomeOfChain source target values m o =
+    ((n : ℕ) × IsChainFaultOf source target values (of_chain.TooManyPieces n) × (o ≡ refusal Limit (too_many_pieces_text n) m))
+    ⊎ (((j : ℕ) × IsChainFaultOf source target values (of_chain.Uncovered j) × (o ≡ refusal Uncovered (uncovered_text j) m))
+    ⊎ ((out : ChainOut) × IsChainOf source target values out × (o ≡ text_alone (chain_text source target values out) m)))
+
+-- The target mesh was made and is tested: its first fault is refused. Where it has none, the chain is run over the values that belong to the source faces.
+abbrev pub IsOutcomeOfSelfRun : RawMesh → RawMesh → Option Folder → Outcome → Type 0
+IsOutcomeOfSelfRun source target m o =
+    ((fault : MeshFault) × IsFirstMeshFault target fault × (o ≡ fault_of_made fault m))
+    ⊎ (((fault : MeshFault) → IsFirstMeshFault target fault → ⊥) × IsOutcomeOfChain source target (values_of_faces (length source.faces)) m o)
+
 -- the words are out of the grammar, or name a command that the program doesn't have yet
 abbrev pub is_usage : Option Chosen → Bool
 is_usage None = true
@@ -122,7 +139,7 @@ is_usage (Some (Ico res dual file)) = false
 is_usage (Some (Overlap a b out workers)) = false
 is_usage (Some (OfflineMap in_mesh out_mesh ov_mesh out_map)) = false
 is_usage (Some (Apply map var in_data out_data masked)) = true
-is_usage (Some (SelfRun n workers)) = true
+is_usage (Some (SelfRun n workers)) = false
 is_usage (Some (Coverage a b)) = false
 is_usage (Some (Check file workers)) = false
 
@@ -141,7 +158,7 @@ IsOutcome (Some (Overlap a b out workers)) m o = AfterFile mesh_words m a (λ so
 IsOutcome (Some (OfflineMap in_mesh out_mesh ov_mesh out_map)) m o =
     AfterFile mesh_words m in_mesh (λ source. AfterFile mesh_words m out_mesh (λ target. AfterFile overlap_words m ov_mesh (λ overlap. IsOutcomeOfMap source target overlap ov_mesh out_map m))) o
 IsOutcome (Some (Apply map var in_data out_data masked)) m o = o ≡ usage m
-IsOutcome (Some (SelfRun n workers)) m o = o ≡ usage m
+IsOutcome (Some (SelfRun n workers)) m o = IsOutcomeOfSelfRun (cubed_sphere n) (latitude_longitude (4 * n) (2 * n)) m o
 IsOutcome (Some (Coverage a b)) m o = AfterFile mesh_words m a (λ source. AfterFile mesh_words m b (λ target. IsOutcomeOfCoverage source target m)) o
 IsOutcome (Some (Check file workers)) m o = AfterFile mesh_words m file (λ mesh. IsOutcomeOfReport mesh m) o
 

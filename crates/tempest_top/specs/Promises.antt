@@ -9,11 +9,11 @@ use Rattle.mesh_check.specs.declared.faults.MeshFault.TheVariants.{NoMemory as N
 use Rattle.command_line.specs.declared.choices.Chosen.{Chosen}
 use Rattle.command_line.specs.declared.choices.Chosen.TheVariants.{Cs, Rll, Ico, Overlap, OfflineMap, Apply, SelfRun, Coverage, Check}
 use Rattle.tempest_top.specs.declared.status.Status.{Status}
-use Rattle.tempest_top.specs.declared.status.Status.TheVariants.{Done, Usage, NoFile, Mesh, Limit, ReadFault, WriteFault, NoMemory}
+use Rattle.tempest_top.specs.declared.status.Status.TheVariants.{Done, Usage, NoFile, Mesh, Uncovered, Limit, ReadFault, WriteFault, NoMemory}
 use Rattle.tempest_top.specs.Scene.{Scene}
 use Rattle.tempest_top.specs.Lines.{line_of, PutsText}
 use Rattle.tempest_top.specs.Faults.{mesh_fault_text, length_text, too_many_pieces_text, read_fault_text}
-use Rattle.tempest_top.specs.MapFaults.{IsMapText}
+use Rattle.tempest_top.specs.MapFaults.{IsMapText, uncovered_text}
 use Rattle.tempest_top.specs.Inputs.{Input, name_of_input, inputs_of, output_of, IsReached, IsInputText, reading_cost}
 use Rattle.tempest_top.specs.Outcome.{Output, TheOutcome, is_usage}
 
@@ -76,6 +76,14 @@ IsPiecesText text status = (status ≡ Limit) × ((n : ℕ) × (MAX_PIECES < n) 
 abbrev pub IsOverlapText : List ℕ → List ℕ → Status → Type 0
 IsOverlapText file text status = IsPiecesText text status ⊎ IsLengthText file text status
 
+-- a target face meets no source face
+abbrev pub IsUncoveredText : List ℕ → Status → Type 0
+IsUncoveredText text status = (status ≡ Uncovered) × ((j : ℕ) × (text ≡ uncovered_text j))
+
+-- a mesh of a self-run has a fault, too many pairs of faces meet, or a target face meets none
+abbrev pub IsSelfRunText : List ℕ → Status → Type 0
+IsSelfRunText text status = IsMadeText text status ⊎ (IsPiecesText text status ⊎ IsUncoveredText text status)
+
 -- nothing
 abbrev pub NoText : List ℕ → Status → Type 0
 NoText text status = ⊥
@@ -89,7 +97,7 @@ IsOwnText (Some (Ico res dual file)) text status = IsMadeText text status
 IsOwnText (Some (Overlap a b out workers)) text status = IsOverlapText out text status
 IsOwnText (Some (OfflineMap in_mesh out_mesh ov_mesh out_map)) text status = IsMapText ov_mesh text status
 IsOwnText (Some (Apply map var in_data out_data masked)) text status = IsUsageText text status
-IsOwnText (Some (SelfRun n workers)) text status = IsUsageText text status
+IsOwnText (Some (SelfRun n workers)) text status = IsSelfRunText text status
 IsOwnText (Some (Coverage a b)) text status = ⊥
 IsOwnText (Some (Check file workers)) text status = IsPiecesText text status
 

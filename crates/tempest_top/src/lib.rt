@@ -12,6 +12,7 @@ mod map;
 mod map_faults;
 mod pairs;
 mod report;
+mod self_run;
 mod status;
 mod top;
 

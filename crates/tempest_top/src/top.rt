@@ -15,6 +15,7 @@ use crate::generate::{generate_cs, generate_ico, generate_rll};
 use crate::map::generate_map;
 use crate::pairs::generate_overlap;
 use crate::report::check_mesh;
+use crate::self_run::self_run;
 use command_line::{Chosen, OptFault, options};
 use remap_io::{Files, Sink};
 use std::alloc::Global;
@@ -58,7 +59,7 @@ fn run_chosen<R: Threads, F: Files, O: Sink, E: Sink>(
             )
         }
         Chosen::Apply { .. } => refuse_usage(err),
-        Chosen::SelfRun { .. } => refuse_usage(err),
+        Chosen::SelfRun { n, workers } => self_run(rt, alloc, n, workers, out, err),
         Chosen::Coverage { a, b } => check_coverage(alloc, &a, &b, files, out, err),
         Chosen::Check { file, workers } => {
             check_mesh(rt, alloc, &file, workers, files, out, err)

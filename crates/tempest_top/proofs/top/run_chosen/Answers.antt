@@ -1,5 +1,7 @@
-use Rattle.std.proofs.Common.{rules, Some, refl}
+use Rattle.std.proofs.Common.{rules, Some, refl, sym, subst}
+use Rattle.command_line.specs.declared.choices.Chosen.{Chosen}
 use Rattle.tempest_top.specs.Scene.{scene}
+use Rattle.tempest_top.specs.Promises.{Keeps}
 use Rattle.tempest_top.proofs.Keeping.{keeps_usage}
 use Rattle.tempest_top.proofs.top.run_chosen.Goals as goal
 
@@ -9,4 +11,7 @@ returns-in-Apply-clause-kept g c =
 
 pub returns-in-SelfRun-clause-kept : goal.returns-in-SelfRun-clause-kept
 returns-in-SelfRun-clause-kept g c =
-    keeps_usage (Some c.args.chosen) (scene (g.F.Files.seen c.args.files.now) (g.O.Sink.seen c.args.out.now) (g.E.Sink.seen c.args.err.now)) (scene (g.F.Files.seen c.args.files.now) (g.O.Sink.seen c.args.out.now) (g.E.Sink.seen c.refuse_usage-in-SelfRun.new.err)) _ (search rules) refl refl c.refuse_usage-in-SelfRun.ensures.status c.refuse_usage-in-SelfRun.ensures.line
+    let files = g.F.Files.seen c.args.files.now in
+    let before = scene files (g.O.Sink.seen c.args.out.now) (g.E.Sink.seen c.args.err.now) in
+    let after = scene files (g.O.Sink.seen c.self_run.new.out) (g.E.Sink.seen c.self_run.new.err) in
+    subst (λ (chosen : Chosen). Keeps (Some chosen) before after c.self_run.result) (sym c.in-SelfRun.is) (c.self_run.ensures.kept files)
