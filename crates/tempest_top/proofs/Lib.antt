@@ -1,11 +1,13 @@
 mod AcceptedMesh
 mod Coming
+mod CommandSteps
 mod Endings
 mod Gaining
 mod Keeping
 mod MapEnds
 mod MapTexts
 pub mod Outcomes
+mod OwnOverlaps
 mod Pieces
 mod SelfRunEnds
 mod ThreeFiles

@@ -1,4 +1,5 @@
 pub mod Code
+pub mod CommandLaws
 pub mod Ends
 pub mod Faults
 pub mod Inputs

@@ -3,9 +3,18 @@ ghost use Rattle.std.specs.Prelude.{◌≡◌, Option};
 ghost use Rattle.remap_io.specs.Folder.{Folder};
 ghost use Rattle.command_line.specs.declared.choices.Chosen.{Chosen};
 ghost use Rattle.tempest_top.specs.Outcome.{Outcome, IsOutcome};
+ghost use Rattle.tempest_top.specs.CommandLaws.{MapAfterOverlap};
 
 /// From one command and one folder the program comes to one outcome at most. It takes no memory.
 pub fn law_one_outcome()
     ensures { (chosen : Option Chosen) (m : Option Folder) (o p : Outcome)
         → IsOutcome chosen m o → IsOutcome chosen m p → o ≡ p }
+{}
+
+/// `GenerateOverlapMesh` on two meshes, and then `GenerateOfflineMap` on these and on the file that
+/// was written: the second one's only outcomes are that it is done, and the file is that of the map
+/// of the overlap of the two meshes, which is read again; or that a target face meets no source face.
+/// It holds for every folder and takes no memory.
+pub fn law_commands()
+    ensures { MapAfterOverlap }
 {}

@@ -17,6 +17,6 @@ mod status;
 mod top;
 
 pub use command_line::{Chosen, OptFault, Text, options};
-pub use laws::law_one_outcome;
+pub use laws::{law_commands, law_one_outcome};
 pub use status::Status;
 pub use top::run;

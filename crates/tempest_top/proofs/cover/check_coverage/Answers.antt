@@ -1,5 +1,4 @@
 use Rattle.std.proofs.Common.{Some, None, refl}
-use Rattle.vec_exact.specs.declared.RawMesh.{RawMesh}
 use Rattle.command_line.specs.declared.choices.Chosen.TheVariants.{Coverage}
 use Rattle.tempest_top.specs.Scene.{scene}
 use Rattle.tempest_top.specs.Outcome.{IsOutcomeOfCoverage}

@@ -1,4 +1,4 @@
-use Rattle.std.proofs.Common.{◌∙◌, ◌≡◌, List, ℕ, Some, None, refl, sym, ap, subst}
+use Rattle.std.proofs.Common.{◌∙◌, List, ℕ, None, refl, ap}
 use Rattle.tempest_top.specs.Scene.{scene}
 use Rattle.tempest_top.specs.Outcome.{IsOutcomeOfCoverage, text_alone}
 use Rattle.tempest_top.specs.Promises.{NoText}

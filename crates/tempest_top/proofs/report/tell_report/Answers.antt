@@ -1,4 +1,4 @@
-use Rattle.std.proofs.Common.{◌∙◌, ◌≡◌, ◌≤◌, ◌<◌, ◌⊎◌, List, [], ℕ, Some, None, arith, refl, ap, inl, inr}
+use Rattle.std.proofs.Common.{◌∙◌, ◌≡◌, ◌≤◌, ◌<◌, ◌⊎◌, List, [], ℕ, None, arith, refl, ap, inl, inr}
 use Rattle.vec_exact.specs.declared.RawMesh.{RawMesh}
 use Rattle.overlap_run.specs.declared.faults.RunFault.{RunFault}
 use Rattle.overlap_run.specs.declared.faults.RunFault.TheVariants.{TooManyPieces, NoMemory as NoRunMemory}
