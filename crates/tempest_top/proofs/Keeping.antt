@@ -16,7 +16,8 @@ use Rattle.tempest_top.specs.Scene.{Scene}
 use Rattle.tempest_top.specs.Lines.{line_of, GainsLine, IsPutRefused, PutsText}
 use Rattle.tempest_top.specs.Faults.{FileWords, status_of, mesh_words}
 use Rattle.tempest_top.specs.MapFaults.{overlap_words, status_of_map_fault}
-use Rattle.tempest_top.specs.Inputs.{Input, MeshFile, OverlapFile, inputs_of, output_of, AreTold, IsReached, IsInputText}
+use Rattle.tempest_top.specs.FieldFaults.{map_words, data_words}
+use Rattle.tempest_top.specs.Inputs.{Input, MeshFile, OverlapFile, MapFile, DataFile, inputs_of, output_of, AreTold, IsReached, IsInputText}
 use Rattle.tempest_top.specs.Outcome.{Output, Outcome, IsOutcome, TheOutcome, is_usage}
 use Rattle.tempest_top.specs.Promises.{IsWriteFailed, IsAnswer, IsWriteFaultText, IsOwnText, IsText, PutsLine, Keeps}
 use Rattle.tempest_top.specs.Ends.{IsEnd, IsEndText, written_name, Ends, Belongs, IsStopped, IsCutShort, IsEnded, Comes}
@@ -133,6 +134,16 @@ overlap_spoken (of_rows.AreaA n) = tt
 overlap_spoken (of_rows.AreaB n) = tt
 overlap_spoken of_rows.NoMemory = tt
 
+pub map_spoken : IsSpoken map_words
+map_spoken (of_rows.Name fault) = tt
+map_spoken (of_rows.Row n) = tt
+map_spoken (of_rows.AreaA n) = tt
+map_spoken (of_rows.AreaB n) = tt
+map_spoken of_rows.NoMemory = tt
+
+pub data_spoken : (var : List ℕ) → IsSpoken (data_words var)
+data_spoken var fault = tt
+
 map_not : (fault : MapFault) → (Usage ≡ status_of_map_fault fault → ⊥) × (NoFile ≡ status_of_map_fault fault → ⊥)
 map_not (of_map.CountsA in_file of_mesh) = (λ e. absurd cc, λ e. absurd cc)
 map_not (of_map.CountsB in_file of_mesh) = (λ e. absurd cc, λ e. absurd cc)
@@ -143,6 +154,8 @@ map_not of_map.NoMemory = (λ e. absurd cc, λ e. absurd cc)
 input_usage : (input : Input) (text : List ℕ) → IsInputText input text Usage → ⊥
 input_usage (MeshFile name) text h = never_usage mesh_words mesh_spoken h.0 h.2
 input_usage (OverlapFile name) text h = never_usage overlap_words overlap_spoken h.0 h.2
+input_usage (MapFile name) text h = never_usage map_words map_spoken h.0 h.2
+input_usage (DataFile var name) text h = never_usage (data_words var) (data_spoken var) h.0 h.2
 
 own_usage : (chosen : Option Chosen) (text : List ℕ) → IsOwnText chosen text Usage → is_usage chosen ≡ true
 own_usage None text h = refl
@@ -152,7 +165,8 @@ own_usage (Some (Ico res dual file)) text h = absurd (let e = h.0 in cc)
 own_usage (Some (Overlap a b out workers)) text (inl h) = absurd (let e = h.0 in cc)
 own_usage (Some (Overlap a b out workers)) text (inr h) = absurd (let e = h.0 in cc)
 own_usage (Some (OfflineMap in_mesh out_mesh ov_mesh out_map)) text h = absurd ((map_not h.0).0 h.2)
-own_usage (Some (Apply map var in_data out_data masked)) text h = refl
+own_usage (Some (Apply map var in_data out_data masked)) text (inl h) = absurd (let e = h.0 in cc)
+own_usage (Some (Apply map var in_data out_data masked)) text (inr h) = absurd (let e = h.0 in cc)
 own_usage (Some (SelfRun n workers)) text (inl h) = absurd (let e = h.0 in cc)
 own_usage (Some (SelfRun n workers)) text (inr (inl h)) = absurd (let e = h.0 in cc)
 own_usage (Some (SelfRun n workers)) text (inr (inr h)) = absurd (let e = h.0 in cc)
@@ -171,7 +185,8 @@ own_no_file (Some (Ico res dual file)) text h = let e = h.0 in absurd cc
 own_no_file (Some (Overlap a b out workers)) text (inl h) = let e = h.0 in absurd cc
 own_no_file (Some (Overlap a b out workers)) text (inr h) = let e = h.0 in absurd cc
 own_no_file (Some (OfflineMap in_mesh out_mesh ov_mesh out_map)) text h = (map_not h.0).1 h.2
-own_no_file (Some (Apply map var in_data out_data masked)) text h = let e = h.0 in absurd cc
+own_no_file (Some (Apply map var in_data out_data masked)) text (inl h) = let e = h.0 in absurd cc
+own_no_file (Some (Apply map var in_data out_data masked)) text (inr h) = let e = h.0 in absurd cc
 own_no_file (Some (SelfRun n workers)) text (inl h) = let e = h.0 in absurd cc
 own_no_file (Some (SelfRun n workers)) text (inr (inl h)) = let e = h.0 in absurd cc
 own_no_file (Some (SelfRun n workers)) text (inr (inr h)) = let e = h.0 in absurd cc
@@ -276,7 +291,7 @@ not_usage chosen status h k = absurd cc
 pub keeps : (chosen : Option Chosen) (before after : Scene) (status : Status) → is_usage chosen ≡ false → Comes (inputs_of chosen) (IsOwnText chosen) (output_of chosen) (IsOutcome chosen) before after status → Keeps chosen before after status
 keeps chosen before after status there c = keeps_only chosen before after status (not_usage chosen status there) c
 
--- words that are out of the grammar, or name a command that isn't there yet
+-- words that are out of the grammar
 usage_text : (chosen : Option Chosen) → is_usage chosen ≡ true → IsOwnText chosen (codes "usage") Usage
 usage_text None h = (refl, refl)
 usage_text (Some (Cs res file)) h = cc
@@ -284,7 +299,7 @@ usage_text (Some (Rll lon lat file)) h = absurd cc
 usage_text (Some (Ico res dual file)) h = absurd cc
 usage_text (Some (Overlap a b out workers)) h = absurd cc
 usage_text (Some (OfflineMap in_mesh out_mesh ov_mesh out_map)) h = absurd cc
-usage_text (Some (Apply map var in_data out_data masked)) h = (refl, refl)
+usage_text (Some (Apply map var in_data out_data masked)) h = absurd cc
 usage_text (Some (SelfRun n workers)) h = absurd cc
 usage_text (Some (Coverage a b)) h = absurd cc
 usage_text (Some (Check file workers)) h = absurd cc

@@ -2,8 +2,11 @@ mod AcceptedMesh
 mod Coming
 mod CommandSteps
 mod Endings
+mod FieldEnds
 mod Gaining
 mod Keeping
+mod LaidOver
+mod MapAndData
 mod MapEnds
 mod MapTexts
 pub mod Outcomes

@@ -1,5 +1,7 @@
 -- A command has at most one outcome, and which outcomes there are.
-use Rattle.std.proofs.Common.{◌≡◌, ◌∙◌, ℕ, ℤ, List, length, true, Option, Some, None, refl, sym, ap, subst, inl, inr, arith}
+use Rattle.std.proofs.Common.{◌≡◌, ◌∙◌, ℕ, ℤ, List, length, true, Option, Some, None, refl, sym, ap, subst, inl, inr, arith, ◌-◌, ◌<◌, Bool, false, Result, Ok, Err, IsSomeAnd}
+use Rattle.std.specs.Prelude.{IfSome}
+use Rattle.std.proofs.lemmas.Bool.{cases_lt}
 use Rattle.vec_exact.specs.declared.RawMesh.{RawMesh}
 use Rattle.remap_io.specs.Folder.{Folder}
 use Rattle.nc_write.specs.declared.NcDoc.{NcDoc}
@@ -14,6 +16,14 @@ use Rattle.remap_files.specs.OverlapDocument.{overlap_document}
 use Rattle.offline_map.specs.declared.faults.MapFault.{MapFault}
 use Rattle.offline_map.proofs.FirstFaults.{same_map_fault, no_map_fault}
 use Rattle.overlap_load.proofs.OneOverlap.{overlap_law}
+use Rattle.map_rows.specs.Maps.{MapParts}
+use Rattle.map_load.proofs.OneMap.{map_law}
+use Rattle.apply_map.specs.Values.{HasNoneBefore, IsFirstAt}
+use Rattle.field_files.specs.declared.FieldVar.{FieldVar}
+use Rattle.field_files.specs.declared.NoFit.{NoFit}
+use Rattle.field_files.specs.FieldShapes.{field_over}
+use Rattle.data_load.specs.declared.DataVar.{DataVar}
+use Rattle.data_load.proofs.OneData.{data_law}
 use Rattle.gen_ico.proofs.One.{one_made as one_icosahedral}
 use Rattle.cover_check.specs.declared.counting.CoverCount.{CoverCount}
 use Rattle.cover_check.proofs.OneCount.{one_cover_count}
@@ -25,12 +35,13 @@ use Rattle.remap_chain.proofs.OnePair.{one_count, one_overlap, count_of_overlap}
 use Rattle.remap_chain.proofs.OneField.{same_chain, same_fault, no_fault}
 use Rattle.command_line.specs.declared.choices.Chosen.{Chosen}
 use Rattle.command_line.specs.declared.choices.Chosen.TheVariants.{Cs, Rll, Ico, Overlap, OfflineMap, Apply, SelfRun, Coverage, Check}
-use Rattle.tempest_top.specs.declared.status.Status.TheVariants.{Uncovered, Limit}
+use Rattle.tempest_top.specs.declared.status.Status.TheVariants.{Uncovered, Limit, Field}
 use Rattle.tempest_top.specs.Lines.{pieces_text, coverage_text, report_text}
 use Rattle.tempest_top.specs.SelfRuns.{values_of_faces, chain_text}
 use Rattle.tempest_top.specs.Faults.{FileWords, status_of, text_of, mesh_words, too_many_pieces_text}
 use Rattle.tempest_top.specs.MapFaults.{overlap_words, status_of_map_fault, map_fault_text, uncovered_text}
-use Rattle.tempest_top.specs.Outcome.{Outcome, IsOutcome, IsOutcomeOfMade, IsOutcomeOfDocument, IsOutcomeOfPair, IsOutcomeOfMap, IsOutcomeOfCoverage, IsOutcomeOfReport, IsOutcomeOfChain, IsOutcomeOfSelfRun, AfterFile, text_alone, refusal, fault_of_made, mesh_written, is_usage, usage}
+use Rattle.tempest_top.specs.Outcome.{Outcome, IsOutcome, IsOutcomeOfMade, IsOutcomeOfDocument, IsOutcomeOfPair, IsOutcomeOfMap, IsOutcomeOfCoverage, IsOutcomeOfReport, IsOutcomeOfChain, IsOutcomeOfSelfRun, AfterFile, text_alone, refusal, fault_of_made, mesh_written, is_usage, usage, IsOutcomeOfPlain, IsOutcomeOfFit, IsOutcomeOfField}
+use Rattle.tempest_top.specs.FieldFaults.{map_words, data_words, fill_text}
 
 -- what two outcomes are equal to
 same : (o p q : Outcome) → o ≡ q → p ≡ q → o ≡ p
@@ -68,6 +79,41 @@ one_map source target overlap ov_file file m o p (inl a) (inl b) =
 one_map source target overlap ov_file file m o p (inl a) (inr b) = absurd (no_map_fault source target overlap a.0 b.0 a.1)
 one_map source target overlap ov_file file m o p (inr a) (inl b) = absurd (no_map_fault source target overlap b.0 a.0 b.1)
 one_map source target overlap ov_file file m o p (inr a) (inr b) = one_document _ _ file m o p a.1 b.1
+
+-- and so has a variable that a map is applied to
+
+first_below : (values : List ℤ) (x : ℤ) (p q : ℕ) → IsFirstAt values x p → IsFirstAt values x q → p < q → ⊥
+first_below values x p q a b lt = b.before (p - 1) (omega (arith, a.least)) a.here
+
+one_first : (values : List ℤ) (x : ℤ) (p q : ℕ) → IsFirstAt values x p → IsFirstAt values x q → p ≡ q
+one_first values x p q a b =
+    elim (cases_lt p q) [
+      | inl lt ↦ absurd (first_below values x p q a b lt)
+      | inr le ↦ elim (cases_lt q p) [ inl lt ↦ absurd (first_below values x q p b a lt) | inr also ↦ omega arith ]
+    ]
+
+no_first : (values : List ℤ) (x : ℤ) (p : ℕ) → HasNoneBefore values x (length values) → IsFirstAt values x p → ⊥
+no_first values x p none a = none (p - 1) (omega (arith, a.least, a.greatest)) a.here
+
+one_filled : (fill : Option ℤ) (values : List ℤ) (p q : ℕ) → IsSomeAnd fill (λ x. IsFirstAt values x p) → IsSomeAnd fill (λ x. IsFirstAt values x q) → p ≡ q
+one_filled None values p q a b = absurd a
+one_filled (Some x) values p q a b = one_first values x p q a b
+
+no_filled : (fill : Option ℤ) (values : List ℤ) (p : ℕ) → IfSome fill (λ x. HasNoneBefore values x (length values)) → IsSomeAnd fill (λ x. IsFirstAt values x p) → ⊥
+no_filled None values p none a = a
+no_filled (Some x) values p none a = no_first values x p none a
+
+one_plain : (map : MapParts) (found : DataVar) (field : FieldVar) (in_data file : List ℕ) (m : Option Folder) (o p : Outcome) → IsOutcomeOfPlain map found field in_data file m o → IsOutcomeOfPlain map found field in_data file m p → o ≡ p
+one_plain map found field in_data file m o p (inl a) (inl b) =
+    a.2 ∙ ap (λ (place : ℕ). refusal Field (fill_text in_data place) m) (one_filled found.fill found.values a.0 b.0 a.1 b.1) ∙ sym b.2
+one_plain map found field in_data file m o p (inl a) (inr b) = absurd (no_filled found.fill found.values a.0 b.0 a.1)
+one_plain map found field in_data file m o p (inr a) (inl b) = absurd (no_filled found.fill found.values b.0 a.0 b.1)
+one_plain map found field in_data file m o p (inr a) (inr b) = one_document _ _ file m o p a.1 b.1
+
+one_fit : (fit : Result FieldVar NoFit) (masked : Bool) (map : MapParts) (found : DataVar) (in_data file : List ℕ) (m : Option Folder) (o p : Outcome) → IsOutcomeOfFit fit masked map found in_data file m o → IsOutcomeOfFit fit masked map found in_data file m p → o ≡ p
+one_fit (Err no_fit) masked map found in_data file m o p a b = same o p _ a b
+one_fit (Ok field) true map found in_data file m o p a b = one_document _ _ file m o p a b
+one_fit (Ok field) false map found in_data file m o p a b = one_plain map found field in_data file m o p a b
 
 -- what a mesh covers of another is told in one way
 one_coverage : (source target : RawMesh) (m : Option Folder) (o p : Outcome) → IsOutcomeOfCoverage source target m o → IsOutcomeOfCoverage source target m p → o ≡ p
@@ -129,7 +175,11 @@ one_outcome (Some (OfflineMap in_mesh out_mesh ov_mesh out_map)) m o p e f =
     one_after mesh_words mesh_law m out_mesh (λ target. AfterFile overlap_words m ov_mesh (of_map source target))
     (λ target. one_after overlap_words overlap_law m ov_mesh (of_map source target) (λ overlap. one_map source target overlap ov_mesh out_map m)))
     o p e f
-one_outcome (Some (Apply map var in_data out_data masked)) m o p e f = same o p _ e f
+one_outcome (Some (Apply map var in_data out_data masked)) m o p e f =
+    let of_field = λ (parts : MapParts) (found : DataVar). IsOutcomeOfField masked parts found in_data out_data m in
+    one_after map_words map_law m map (λ parts. AfterFile (data_words var) m in_data (of_field parts))
+    (λ parts. one_after (data_words var) (data_law var) m in_data (of_field parts) (λ found. one_fit (field_over found.file found.var parts.n_a) masked parts found in_data out_data m))
+    o p e f
 one_outcome (Some (SelfRun n workers)) m o p e f = one_self_run _ _ m o p e f
 one_outcome (Some (Coverage a b)) m o p e f =
     one_after mesh_words mesh_law m a (λ source. AfterFile mesh_words m b (λ target. IsOutcomeOfCoverage source target m))
@@ -140,7 +190,7 @@ one_outcome (Some (Check file workers)) m o p e f = one_after mesh_words mesh_la
 pub accepted_made : (raw : RawMesh) (file : List ℕ) (m : Option Folder) → IsAcceptedMesh raw → IsOutcomeOfMade raw file m (mesh_written raw file m)
 accepted_made raw file m accepted = inr ((λ fault first. no_first_fault raw fault accepted first), refl)
 
--- the outcome of words that are out of the grammar, or name a command that isn't there yet
+-- the outcome of words that are out of the grammar
 pub usage_outcome : (chosen : Option Chosen) (m : Option Folder) → is_usage chosen ≡ true → IsOutcome chosen m (usage m)
 usage_outcome None m h = refl
 usage_outcome (Some (Cs res file)) m h = cc
@@ -148,7 +198,7 @@ usage_outcome (Some (Rll lon lat file)) m h = absurd cc
 usage_outcome (Some (Ico res dual file)) m h = absurd cc
 usage_outcome (Some (Overlap a b out workers)) m h = absurd cc
 usage_outcome (Some (OfflineMap in_mesh out_mesh ov_mesh out_map)) m h = absurd cc
-usage_outcome (Some (Apply map var in_data out_data masked)) m h = refl
+usage_outcome (Some (Apply map var in_data out_data masked)) m h = absurd cc
 usage_outcome (Some (SelfRun n workers)) m h = absurd cc
 usage_outcome (Some (Coverage a b)) m h = absurd cc
 usage_outcome (Some (Check file workers)) m h = absurd cc

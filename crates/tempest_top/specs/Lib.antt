@@ -2,6 +2,8 @@ pub mod Code
 pub mod CommandLaws
 pub mod Ends
 pub mod Faults
+pub mod FieldFaults
+pub mod Fields
 pub mod Inputs
 pub mod Lines
 pub mod MapFaults

@@ -1,5 +1,5 @@
 -- What a command comes to, apart from faults of devices and want of memory.
-use Rattle.std.specs.Prelude.{◌≡◌, ◌⊎◌, ℕ, ◌*◌, ◌<◌, ◌≤◌, ℤ, List, [], length, Bool, true, false, codes, Option, Some, None, option_map}
+use Rattle.std.specs.Prelude.{◌≡◌, ◌⊎◌, ℕ, ◌*◌, ◌<◌, ◌≤◌, ℤ, List, [], length, Bool, true, false, codes, Option, Some, None, option_map, Result, Ok, Err}
 use Rattle.vec_exact.specs.declared.limits.TheConstants.{MAX_FILE_LEN, MAX_PIECES}
 use Rattle.vec_exact.specs.declared.RawMesh.{RawMesh}
 use Rattle.remap_io.specs.Folder.{Folder, with_file}
@@ -21,6 +21,11 @@ use Rattle.remap_files.specs.MapDocument.{map_document}
 use Rattle.offline_map.specs.declared.faults.MapFault.{MapFault}
 use Rattle.offline_map.specs.Maps.{map_of}
 use Rattle.offline_map.specs.MapFaults.{IsMapFaultOf, IsMappable}
+use Rattle.map_rows.specs.Maps.{MapParts}
+use Rattle.field_files.specs.declared.FieldVar.{FieldVar}
+use Rattle.field_files.specs.declared.NoFit.{NoFit}
+use Rattle.field_files.specs.FieldShapes.{field_over}
+use Rattle.data_load.specs.declared.DataVar.{DataVar}
 use Rattle.cover_check.specs.declared.counting.CoverCount.{CoverCount}
 use Rattle.cover_check.specs.CoveredTargets.{IsCoverCount}
 use Rattle.mesh_partition.specs.declared.reporting.MeshReport.{MeshReport}
@@ -31,11 +36,13 @@ use Rattle.remap_chain.specs.Chains.{IsChainOf, IsChainFaultOf}
 use Rattle.command_line.specs.declared.choices.Chosen.{Chosen}
 use Rattle.command_line.specs.declared.choices.Chosen.TheVariants.{Cs, Rll, Ico, Overlap, OfflineMap, Apply, SelfRun, Coverage, Check}
 use Rattle.tempest_top.specs.declared.status.Status.{Status}
-use Rattle.tempest_top.specs.declared.status.Status.TheVariants.{Done, Usage, Mesh, Uncovered, Limit}
+use Rattle.tempest_top.specs.declared.status.Status.TheVariants.{Done, Usage, Mesh, Uncovered, Limit, Field}
 use Rattle.tempest_top.specs.Lines.{mesh_text, pieces_text, map_text, coverage_text, report_text, line_of}
 use Rattle.tempest_top.specs.SelfRuns.{values_of_faces, chain_text}
 use Rattle.tempest_top.specs.Faults.{FileWords, status_of, text_of, mesh_words, mesh_fault_text, length_text, too_many_pieces_text}
 use Rattle.tempest_top.specs.MapFaults.{overlap_words, status_of_map_fault, map_fault_text, uncovered_text}
+use Rattle.tempest_top.specs.FieldFaults.{map_words, data_words, no_fit_text, fill_text}
+use Rattle.tempest_top.specs.Fields.{IsFilledAt, HasNoFill, plain_document, plain_text, masked_document, masked_text}
 use Rattle.tempest_top.specs.Inputs.{inputs_of, AreTold}
 
 -- The output file of a command: its name and its new bytes.
@@ -107,6 +114,26 @@ IsOutcomeOfMap source target overlap ov_file file m o =
     ((fault : MapFault) × IsMapFaultOf source target overlap fault × (o ≡ refusal (status_of_map_fault fault) (map_fault_text ov_file fault) m))
     ⊎ (IsMappable source target overlap × IsOutcomeOfDocument (map_document (map_of overlap)) (map_text (map_of overlap)) file m o)
 
+-- The field that a map makes of a variable is written to a file, unless a value is the fill value: the first one is told.
+abbrev pub IsOutcomeOfPlain : MapParts → DataVar → FieldVar → List ℕ → List ℕ → Option Folder → Outcome → Type 0
+IsOutcomeOfPlain map found field in_data file m o =
+    ((place : ℕ) × IsFilledAt found place × (o ≡ refusal Field (fill_text in_data place) m))
+    ⊎ (HasNoFill found × IsOutcomeOfDocument (plain_document map found field) (plain_text map found field) file m o)
+
+-- With a mask such values are absent.
+abbrev pub IsOutcomeOfMasked : MapParts → DataVar → FieldVar → List ℕ → Option Folder → Outcome → Type 0
+IsOutcomeOfMasked map found field file m o = IsOutcomeOfDocument (masked_document map found field) (masked_text map found field) file m o
+
+-- Where no trailing dimensions of the variable fit the map, the length of the last one is told.
+abbrev pub IsOutcomeOfFit : Result FieldVar NoFit → Bool → MapParts → DataVar → List ℕ → List ℕ → Option Folder → Outcome → Type 0
+IsOutcomeOfFit (Err no_fit) masked map found in_data file m o = o ≡ refusal Field (no_fit_text in_data no_fit.last_len map.n_a) m
+IsOutcomeOfFit (Ok field) true map found in_data file m o = IsOutcomeOfMasked map found field file m o
+IsOutcomeOfFit (Ok field) false map found in_data file m o = IsOutcomeOfPlain map found field in_data file m o
+
+-- The variable is laid over the sources of the map.
+abbrev pub IsOutcomeOfField : Bool → MapParts → DataVar → List ℕ → List ℕ → Option Folder → Outcome → Type 0
+IsOutcomeOfField masked map found in_data file m o = IsOutcomeOfFit (field_over found.file found.var map.n_a) masked map found in_data file m o
+
 -- What the source mesh covers of the target mesh is told.
 abbrev pub IsOutcomeOfCoverage : RawMesh → RawMesh → Option Folder → Outcome → Type 0
 IsOutcomeOfCoverage source target m o = (count : CoverCount) × IsCoverCount source target count × (o ≡ text_alone (coverage_text (length target.faces) count) m)
@@ -130,7 +157,7 @@ IsOutcomeOfSelfRun source target m o =
     ((fault : MeshFault) × IsFirstMeshFault target fault × (o ≡ fault_of_made fault m))
     ⊎ (((fault : MeshFault) → IsFirstMeshFault target fault → ⊥) × IsOutcomeOfChain source target (values_of_faces (length source.faces)) m o)
 
--- the words are out of the grammar, or name a command that the program doesn't have yet
+-- the words are out of the grammar
 abbrev pub is_usage : Option Chosen → Bool
 is_usage None = true
 is_usage (Some (Cs res file)) = false
@@ -138,7 +165,7 @@ is_usage (Some (Rll lon lat file)) = false
 is_usage (Some (Ico res dual file)) = false
 is_usage (Some (Overlap a b out workers)) = false
 is_usage (Some (OfflineMap in_mesh out_mesh ov_mesh out_map)) = false
-is_usage (Some (Apply map var in_data out_data masked)) = true
+is_usage (Some (Apply map var in_data out_data masked)) = false
 is_usage (Some (SelfRun n workers)) = false
 is_usage (Some (Coverage a b)) = false
 is_usage (Some (Check file workers)) = false
@@ -157,7 +184,8 @@ IsOutcome (Some (Ico res dual file)) m o = (raw : RawMesh) × IsMade res dual ra
 IsOutcome (Some (Overlap a b out workers)) m o = AfterFile mesh_words m a (λ source. AfterFile mesh_words m b (λ target. IsOutcomeOfPair source target out m)) o
 IsOutcome (Some (OfflineMap in_mesh out_mesh ov_mesh out_map)) m o =
     AfterFile mesh_words m in_mesh (λ source. AfterFile mesh_words m out_mesh (λ target. AfterFile overlap_words m ov_mesh (λ overlap. IsOutcomeOfMap source target overlap ov_mesh out_map m))) o
-IsOutcome (Some (Apply map var in_data out_data masked)) m o = o ≡ usage m
+IsOutcome (Some (Apply map var in_data out_data masked)) m o =
+    AfterFile map_words m map (λ parts. AfterFile (data_words var) m in_data (λ found. IsOutcomeOfField masked parts found in_data out_data m)) o
 IsOutcome (Some (SelfRun n workers)) m o = IsOutcomeOfSelfRun (cubed_sphere n) (latitude_longitude (4 * n) (2 * n)) m o
 IsOutcome (Some (Coverage a b)) m o = AfterFile mesh_words m a (λ source. AfterFile mesh_words m b (λ target. IsOutcomeOfCoverage source target m)) o
 IsOutcome (Some (Check file workers)) m o = AfterFile mesh_words m file (λ mesh. IsOutcomeOfReport mesh m) o

@@ -14,6 +14,7 @@ use Rattle.tempest_top.specs.Scene.{Scene}
 use Rattle.tempest_top.specs.Lines.{line_of, PutsText}
 use Rattle.tempest_top.specs.Faults.{mesh_fault_text, length_text, too_many_pieces_text, read_fault_text}
 use Rattle.tempest_top.specs.MapFaults.{IsMapText, uncovered_text}
+use Rattle.tempest_top.specs.FieldFaults.{IsFieldFaultText}
 use Rattle.tempest_top.specs.Inputs.{Input, name_of_input, inputs_of, output_of, IsReached, IsInputText, reading_cost}
 use Rattle.tempest_top.specs.Outcome.{Output, TheOutcome, is_usage}
 
@@ -84,6 +85,10 @@ IsUncoveredText text status = (status ≡ Uncovered) × ((j : ℕ) × (text ≡ 
 abbrev pub IsSelfRunText : List ℕ → Status → Type 0
 IsSelfRunText text status = IsMadeText text status ⊎ (IsPiecesText text status ⊎ IsUncoveredText text status)
 
+-- a map makes no field of a variable, or its file would be too long
+abbrev pub IsFieldText : List ℕ → List ℕ → List ℕ → Status → Type 0
+IsFieldText in_data file text status = IsFieldFaultText in_data text status ⊎ IsLengthText file text status
+
 -- nothing
 abbrev pub NoText : List ℕ → Status → Type 0
 NoText text status = ⊥
@@ -96,7 +101,7 @@ IsOwnText (Some (Rll lon lat file)) text status = IsMadeText text status
 IsOwnText (Some (Ico res dual file)) text status = IsMadeText text status
 IsOwnText (Some (Overlap a b out workers)) text status = IsOverlapText out text status
 IsOwnText (Some (OfflineMap in_mesh out_mesh ov_mesh out_map)) text status = IsMapText ov_mesh text status
-IsOwnText (Some (Apply map var in_data out_data masked)) text status = IsUsageText text status
+IsOwnText (Some (Apply map var in_data out_data masked)) text status = IsFieldText in_data out_data text status
 IsOwnText (Some (SelfRun n workers)) text status = IsSelfRunText text status
 IsOwnText (Some (Coverage a b)) text status = ⊥
 IsOwnText (Some (Check file workers)) text status = IsPiecesText text status

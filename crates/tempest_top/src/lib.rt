@@ -3,6 +3,9 @@
 
 mod cover;
 mod faults;
+mod field;
+mod field_docs;
+mod field_faults;
 mod finish;
 mod generate;
 mod inputs;

@@ -10,6 +10,7 @@ ghost use Rattle.tempest_top.specs.Promises.{IsAnswer, FolderAfterRefusal, TextA
 
 use crate::Status;
 use crate::cover::check_coverage;
+use crate::field::apply_offline_map;
 use crate::finish::{refuse_memory, refuse_usage};
 use crate::generate::{generate_cs, generate_ico, generate_rll};
 use crate::map::generate_map;
@@ -21,7 +22,7 @@ use remap_io::{Files, Sink};
 use std::alloc::Global;
 use std::thread::Threads;
 
-// Runs a command. One that the program doesn't have yet is refused.
+// Runs a command.
 fn run_chosen<R: Threads, F: Files, O: Sink, E: Sink>(
     rt: &R,
     alloc: Global,
@@ -58,7 +59,17 @@ fn run_chosen<R: Threads, F: Files, O: Sink, E: Sink>(
                 alloc, &in_mesh, &out_mesh, &ov_mesh, &out_map, files, out, err,
             )
         }
-        Chosen::Apply { .. } => refuse_usage(err),
+        Chosen::Apply {
+            map,
+            var,
+            in_data,
+            out_data,
+            masked,
+        } => {
+            apply_offline_map(
+                alloc, &map, &var, &in_data, &out_data, masked, files, out, err,
+            )
+        }
         Chosen::SelfRun { n, workers } => self_run(rt, alloc, n, workers, out, err),
         Chosen::Coverage { a, b } => check_coverage(alloc, &a, &b, files, out, err),
         Chosen::Check { file, workers } => {

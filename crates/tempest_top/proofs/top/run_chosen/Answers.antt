@@ -1,13 +1,8 @@
-use Rattle.std.proofs.Common.{rules, Some, refl, sym, subst}
+use Rattle.std.proofs.Common.{Some, sym, subst}
 use Rattle.command_line.specs.declared.choices.Chosen.{Chosen}
 use Rattle.tempest_top.specs.Scene.{scene}
 use Rattle.tempest_top.specs.Promises.{Keeps}
-use Rattle.tempest_top.proofs.Keeping.{keeps_usage}
 use Rattle.tempest_top.proofs.top.run_chosen.Goals as goal
-
-pub returns-in-Apply-clause-kept : goal.returns-in-Apply-clause-kept
-returns-in-Apply-clause-kept g c =
-    keeps_usage (Some c.args.chosen) (scene (g.F.Files.seen c.args.files.now) (g.O.Sink.seen c.args.out.now) (g.E.Sink.seen c.args.err.now)) (scene (g.F.Files.seen c.args.files.now) (g.O.Sink.seen c.args.out.now) (g.E.Sink.seen c.refuse_usage.new.err)) _ (search rules) refl refl c.refuse_usage.ensures.status c.refuse_usage.ensures.line
 
 pub returns-in-SelfRun-clause-kept : goal.returns-in-SelfRun-clause-kept
 returns-in-SelfRun-clause-kept g c =
