@@ -2,4 +2,4 @@ mod PresentSteps
 mod MaskedMasses
 mod Counting
 mod MaskedSlices
-mod MaskedLaws
+pub mod MaskedLaws

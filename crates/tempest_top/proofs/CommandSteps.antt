@@ -59,12 +59,12 @@ accepted_file : (m : Folder) (name : List ℕ) (mesh : RawMesh) → IsMeshFile m
 accepted_file m name mesh held = accepted_in (file_at m name) mesh held
 
 -- the folder n is m with the file of a document
-record IsWritten (doc : NcDoc) (file : List ℕ) (m n : Folder) : Type 0 where
-  short : length (file_of doc) ≤ 2147483647
-  folder : n ≡ with_file m file (file_of doc)
+pub record IsWritten (doc : NcDoc) (file : List ℕ) (m n : Folder) : Type 0 where
+  pub short : length (file_of doc) ≤ 2147483647
+  pub folder : n ≡ with_file m file (file_of doc)
 
 -- a document that was dealt with and is done was written
-done_document : (doc : NcDoc) (text file : List ℕ) (m n : Folder) (o : Outcome) → IsOutcomeOfDocument doc text file (Some m) o → o.status ≡ Done → o.folder ≡ Some n → IsWritten doc file m n
+pub done_document : (doc : NcDoc) (text file : List ℕ) (m n : Folder) (o : Outcome) → IsOutcomeOfDocument doc text file (Some m) o → o.status ≡ Done → o.folder ≡ Some n → IsWritten doc file m n
 done_document doc text file m n o (inl a) done folder = absurd (let limit : o.status ≡ Limit = ap (λ (x : Outcome). x.status) a.1 in cc)
 done_document doc text file m n o (inr a) done folder =
     let left : o.folder ≡ Some (with_file m file (file_of doc)) = ap (λ (x : Outcome). x.folder) a.1 in record { short = a.0; folder = cc }
@@ -109,7 +109,7 @@ meshes_stay m n a b ov bytes source target held not_a not_b e =
     (record { source_file = stays mesh_kind m ov bytes a source (λ h. not_a (sym h)) held.source_file; target_file = stays mesh_kind m ov bytes b target (λ h. not_b (sym h)) held.target_file })
 
 -- a fault of the map of its overlap is a target face without a row
-own_fault : (source target : RawMesh) (overlap : OverlapParts) (fault : MapFault) → IsOverlapOf source target overlap → IsMapFaultOf source target overlap fault → status_of_map_fault fault ≡ Uncovered
+pub own_fault : (source target : RawMesh) (overlap : OverlapParts) (fault : MapFault) → IsOverlapOf source target overlap → IsMapFaultOf source target overlap fault → status_of_map_fault fault ≡ Uncovered
 own_fault source target overlap (CountsA in_file of_mesh) is h = absurd (no_counts_a source target overlap in_file of_mesh is h)
 own_fault source target overlap (CountsB in_file of_mesh) is h = absurd (no_counts_b source target overlap in_file of_mesh is h)
 own_fault source target overlap (Row r) is h = absurd (no_row source target overlap r is h)
@@ -144,19 +144,18 @@ made : (n : Folder) (source target : RawMesh) (overlap : OverlapParts) (ov name 
 made n source target overlap ov name o is sound (inl a) = inr (ap (λ (x : Outcome). x.status) a.2 ∙ own_fault source target overlap a.0 is a.1)
 made n source target overlap ov name o is sound (inr a) = map_written n source target overlap _ name o is (map_is_sound overlap sound a.0.covered) a.1
 
--- what the second command comes to over a folder with the overlap file of the two meshes
-pub map_after : (n : Folder) (next : List (List ℕ)) (a b ov name : List ℕ) (source target : RawMesh) (overlap : OverlapParts) (o : Outcome) → HoldsMeshes n a b source target → IsOverlapFile n ov overlap
-    → IsOverlapOf source target overlap → IsSoundOverlap overlap → options_of next ≡ Some (OfflineMap a b ov name) → IsOutcome (options_of next) (Some n) o → MakesMap source target name o
-map_after n next a b ov name source target overlap o held read is sound asks outcome =
+-- what is left of the second command over a folder with the overlap file of the two meshes
+pub of_map_after : (n : Folder) (next : List (List ℕ)) (a b ov name : List ℕ) (source target : RawMesh) (overlap : OverlapParts) (o : Outcome) → HoldsMeshes n a b source target → IsOverlapFile n ov overlap
+    → options_of next ≡ Some (OfflineMap a b ov name) → IsOutcome (options_of next) (Some n) o → IsOutcomeOfMap source target overlap ov name (Some n) o
+of_map_after n next a b ov name source target overlap o held read asks outcome =
     let of_map = λ (s t : RawMesh) (x : OverlapParts). IsOutcomeOfMap s t x ov name (Some n) in
     let all = subst (λ (chosen : Option Chosen). IsOutcome chosen (Some n) o) asks outcome in
     let first = goes_on mesh_words mesh_law n a source (λ s. AfterFile mesh_words (Some n) b (λ t. AfterFile overlap_words (Some n) ov (of_map s t))) o held.source_file all in
     let second = goes_on mesh_words mesh_law n b target (λ t. AfterFile overlap_words (Some n) ov (of_map source t)) o held.target_file first in
-    let third = goes_on overlap_words overlap_law n ov overlap (of_map source target) o read second in
-    made n source target overlap ov name o is sound third
+    goes_on overlap_words overlap_law n ov overlap (of_map source target) o read second
 
 pub map_after_overlap : MapAfterOverlap
 map_after_overlap m n words next a b ov name workers source target outcome held asks d chosen is =
     let (overlap, wrote) = after_overlap m n words a b ov workers source target held asks d in
     let there = meshes_stay m n a b ov (file_of (overlap_document overlap)) source target held asks.not_source asks.not_target wrote.folder in
-    map_after n next a b ov name source target overlap outcome there wrote.read wrote.is wrote.sound chosen is
+    made n source target overlap ov name outcome wrote.is wrote.sound (of_map_after n next a b ov name source target overlap outcome there wrote.read chosen is)

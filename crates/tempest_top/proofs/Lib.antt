@@ -3,6 +3,7 @@ mod Coming
 mod CommandSteps
 mod Endings
 mod FieldEnds
+mod FieldSteps
 mod Gaining
 mod Keeping
 mod LaidOver

@@ -20,6 +20,6 @@ mod status;
 mod top;
 
 pub use command_line::{Chosen, OptFault, Text, options};
-pub use laws::{law_commands, law_one_outcome};
+pub use laws::{law_commands, law_one_outcome, law_three_commands};
 pub use status::Status;
 pub use top::run;
