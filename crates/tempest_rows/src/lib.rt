@@ -24,6 +24,8 @@ mod rings;
 #[cfg(test)]
 mod runs;
 #[cfg(test)]
+mod self_run;
+#[cfg(test)]
 mod words;
 #[cfg(test)]
 mod workers;
