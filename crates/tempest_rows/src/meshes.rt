@@ -90,6 +90,14 @@ pub(crate) fn mesh_of_equal_faces(
     Ok(file)
 }
 
+const TRIANGLE: [[i32; 3]; 3] = [[1000, 1, 1], [1000, 2, 1], [1000, 1, 2]];
+
+/// The mesh file of 2897 equal faces. Each meets each, and the square of 2897, which is 8392609, is
+/// past the limit of pieces.
+pub(crate) fn equal_faces(alloc: Global) -> Result<Vec<u8>, AllocError> {
+    mesh_of_equal_faces(alloc, &TRIANGLE, &[1, 2, 3], 2897)
+}
+
 /// A run over small meshes: an octant, the opposite octant, a face of sixteen corners, and the octant
 /// listed twice.
 pub(crate) fn with_small_meshes(alloc: Global) -> Result<Run, Fail> {

@@ -123,9 +123,9 @@ fn a_long_tail_is_not_read(rt: HostRuntime) -> Result<(), Fail> {
     Ok(())
 }
 
-// Files that tell nothing of what they hold. Every file is said to be one byte too long.
+/// Files that tell nothing of what they hold. Every file is said to be one byte too long.
 #[derive(Drop)]
-struct LongFiles;
+pub struct LongFiles;
 
 impl Files for LongFiles {
     ghost use Rattle.std.specs.Prelude.{None};

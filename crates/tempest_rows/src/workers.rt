@@ -1,7 +1,7 @@
 // The overlap of two meshes by one worker and by several, and against the plain program.
 ghost use Rattle.std.specs.Prelude.{◌≡◌, ◌<◌, ◌≤◌};
 
-use crate::meshes::mesh_of_equal_faces;
+use crate::meshes::equal_faces;
 use crate::runs::Run;
 use cell_index::{build, candidates};
 use clip::{Overlap, Piece, clip};
@@ -270,14 +270,10 @@ fn the_plain_program_finds_the_same(rt: HostRuntime) {
     }
 }
 
-// 2897 equal faces over themselves: the square of 2897 is past the limit.
-const TRIANGLE: [[i32; 3]; 3] = [[1000, 1, 1], [1000, 2, 1], [1000, 1, 2]];
-
 #[test]
 fn too_many_pieces_are_counted(rt: HostRuntime) -> Result<(), Fail> {
     let mut row = Run::new(rt.alloc());
-    let file = mesh_of_equal_faces(rt.alloc(), &TRIANGLE, &[1, 2, 3], 2897)?;
-    row.place("equal.g", &file)?;
+    row.place("equal.g", &equal_faces(rt.alloc())?)?;
     let text = "GenerateOverlapMesh --a equal.g --b equal.g --out o.g --workers 4";
     assert_eq!(rt; row.go(&rt, rt.alloc(), text)?, Status::Limit);
     assert_eq!(rt;
