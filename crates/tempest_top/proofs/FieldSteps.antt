@@ -56,11 +56,11 @@ same_masses true m found field sound = masked_masses m field.slices found.fill f
 same_masses false m found field sound = equal_masses m field.slices found.values sound
 
 -- what becomes of the document of the field
-carried : (masked : Bool) (p : Folder) (source target : RawMesh) (overlap : OverlapParts) (name : List ℕ) (found : DataVar) (field : FieldVar) (o : Outcome) → IsOverlapOf source target overlap → IsSoundMap (map_of overlap)
+carried : (masked : Bool) (p : Folder) (overlap : OverlapParts) (name : List ℕ) (found : DataVar) (field : FieldVar) (o : Outcome) → IsSoundMap (map_of overlap)
     → field_over found.file found.var overlap.faces_a ≡ Ok field
-    → IsOutcomeOfDocument (carried_document masked (map_of overlap) found field) (carried_text masked (map_of overlap) found field) name (Some p) o → MakesField masked source target name found o
-carried masked p source target overlap name found field o is sound lies (inl a) = let limit : o.status ≡ Limit = ap (λ (x : Outcome). x.status) a.1 in inr (inr limit)
-carried masked p source target overlap name found field o is sound lies (inr a) =
+    → IsOutcomeOfDocument (carried_document masked (map_of overlap) found field) (carried_text masked (map_of overlap) found field) name (Some p) o → MakesField masked overlap name found o
+carried masked p overlap name found field o sound lies (inl a) = let limit : o.status ≡ Limit = ap (λ (x : Outcome). x.status) a.1 in inr (inr limit)
+carried masked p overlap name found field o sound lies (inr a) =
     let bytes = file_of (carried_document masked (map_of overlap) found field) in
     let done : o.status ≡ Done = ap (λ (x : Outcome). x.status) a.1 in
     let folder : o.folder ≡ Some (with_file p name bytes) = ap (λ (x : Outcome). x.folder) a.1 in
@@ -68,42 +68,43 @@ carried masked p source target overlap name found field o is sound lies (inr a) 
     inl (
       done,
       (
-        overlap,
+        field,
         (
-          field,
-          (
-            with_file p name bytes,
-            is,
-            record {
-              lies = lies;
-              folder = folder;
-              bytes = file_at-same p name bytes;
-              text = text;
-              masses = same_masses masked (map_of overlap) found field sound;
-            },
-          ),
+          with_file p name bytes,
+          record {
+            lies = lies;
+            folder = folder;
+            bytes = file_at-same p name bytes;
+            text = text;
+            masses = same_masses masked (map_of overlap) found field sound;
+          },
         ),
       ),
     )
 
 -- what becomes of the variable
-fitted : (fit : Result FieldVar NoFit) (masked : Bool) (p : Folder) (source target : RawMesh) (overlap : OverlapParts) (in_data name : List ℕ) (found : DataVar) (o : Outcome) → IsOverlapOf source target overlap → IsSoundMap (map_of overlap)
-    → field_over found.file found.var overlap.faces_a ≡ fit → IsOutcomeOfFit fit masked (map_of overlap) found in_data name (Some p) o → MakesField masked source target name found o
-fitted (Err no_fit) masked p source target overlap in_data name found o is sound lies h = let told : o.status ≡ Field = ap (λ (x : Outcome). x.status) h in inr (inl told)
-fitted (Ok field) true p source target overlap in_data name found o is sound lies h = carried true p source target overlap name found field o is sound lies h
-fitted (Ok field) false p source target overlap in_data name found o is sound lies (inl a) = let told : o.status ≡ Field = ap (λ (x : Outcome). x.status) a.2 in inr (inl told)
-fitted (Ok field) false p source target overlap in_data name found o is sound lies (inr a) = carried false p source target overlap name found field o is sound lies a.1
+fitted : (fit : Result FieldVar NoFit) (masked : Bool) (p : Folder) (overlap : OverlapParts) (in_data name : List ℕ) (found : DataVar) (o : Outcome) → IsSoundMap (map_of overlap)
+    → field_over found.file found.var overlap.faces_a ≡ fit → IsOutcomeOfFit fit masked (map_of overlap) found in_data name (Some p) o → MakesField masked overlap name found o
+fitted (Err no_fit) masked p overlap in_data name found o sound lies h = let told : o.status ≡ Field = ap (λ (x : Outcome). x.status) h in inr (inl told)
+fitted (Ok field) true p overlap in_data name found o sound lies h = carried true p overlap name found field o sound lies h
+fitted (Ok field) false p overlap in_data name found o sound lies (inl a) = let told : o.status ≡ Field = ap (λ (x : Outcome). x.status) a.2 in inr (inl told)
+fitted (Ok field) false p overlap in_data name found o sound lies (inr a) = carried false p overlap name found field o sound lies a.1
 
 -- what the third command comes to behind the map file
 behind : (masked : Bool) (m p : Folder) (source target : RawMesh) (overlap : OverlapParts) (var in_data name : List ℕ) (o : Outcome) → IsOverlapOf source target overlap → IsSoundMap (map_of overlap) → file_at p in_data ≡ file_at m in_data
-    → AfterFile (data_words var) (Some p) in_data (λ found. IsOutcomeOfField masked (map_of overlap) found in_data name (Some p)) o → CarriesField masked m source target var in_data name o
+    → AfterFile (data_words var) (Some p) in_data (λ found. IsOutcomeOfField masked (map_of overlap) found in_data name (Some p)) o → CarriesField masked m p source target var in_data name o
 behind masked m p source target overlap var in_data name o is sound same (inl a) =
     inl (a.0, subst (λ (file : Option (List ℕ)). IsRefusedName (data_kind var) file a.0) same a.1, ap (λ (x : Outcome). x.status) a.2)
 behind masked m p source target overlap var in_data name o is sound same (inr a) =
     inr (
       a.0,
       subst (λ (file : Option (List ℕ)). IsSomeAnd file (λ b. HasContent (data_kind var) b a.0)) same a.1,
-      fitted (field_over a.0.file a.0.var overlap.faces_a) masked p source target overlap in_data name a.0 o is sound refl a.2,
+      record {
+        o = overlap;
+        overlap = is;
+        outcome_of = a.2;
+        makes = fitted (field_over a.0.file a.0.var overlap.faces_a) masked p overlap in_data name a.0 o sound refl a.2;
+      },
     )
 
 pub field_after_map : FieldAfterMap

@@ -26,7 +26,7 @@ use Rattle.tempest_top.specs.declared.status.Status.TheVariants.{Done, Uncovered
 use Rattle.tempest_top.specs.Faults.{status_of}
 use Rattle.tempest_top.specs.FieldFaults.{data_words}
 use Rattle.tempest_top.specs.Fields.{plain_of, plain_document, plain_text, masked_of, masked_document, masked_text}
-use Rattle.tempest_top.specs.Outcome.{Outcome, IsOutcome}
+use Rattle.tempest_top.specs.Outcome.{Outcome, IsOutcome, IsOutcomeOfField}
 
 -- These words find the overlap of the meshes a and b, and write it to a file that neither of them is.
 pub record AsksOverlap (words : List (List ℕ)) (a b ov : List ℕ) (workers : ℕ) : Type 0 where
@@ -96,20 +96,26 @@ pub record IsCarried (masked : Bool) (o : OverlapParts) (name : List ℕ) (found
   pub text : outcome.text ≡ carried_text masked (map_of o) found field
   pub masses : mass_after masked (map_of o) found field ≡ mass_before masked (map_of o) found field
 
--- The command is done with the map of the overlap of the two meshes.
-abbrev pub IsDoneField : Bool → RawMesh → RawMesh → List ℕ → DataVar → Outcome → Type 0
-IsDoneField masked source target name found outcome =
-    (outcome.status ≡ Done) × ((o : OverlapParts) × ((field : FieldVar) × ((m : Folder) × IsOverlapOf source target o × IsCarried masked o name found field m outcome)))
+-- The command is done with the map of the overlap o.
+abbrev pub IsDoneField : Bool → OverlapParts → List ℕ → DataVar → Outcome → Type 0
+IsDoneField masked o name found outcome = (outcome.status ≡ Done) × ((field : FieldVar) × ((m : Folder) × IsCarried masked o name found field m outcome))
 
 -- It is done so, or the variable fits no map with so many sources or holds its fill value (Field), or the file would be too long (Limit).
-abbrev pub MakesField : Bool → RawMesh → RawMesh → List ℕ → DataVar → Outcome → Type 0
-MakesField masked source target name found outcome = IsDoneField masked source target name found outcome ⊎ ((outcome.status ≡ Field) ⊎ (outcome.status ≡ Limit))
+abbrev pub MakesField : Bool → OverlapParts → List ℕ → DataVar → Outcome → Type 0
+MakesField masked o name found outcome = IsDoneField masked o name found outcome ⊎ ((outcome.status ≡ Field) ⊎ (outcome.status ≡ Limit))
+
+-- It comes to what the map of the overlap of the two meshes makes of the variable, over the folder p.
+pub record MakesFieldOf (masked : Bool) (p : Folder) (source target : RawMesh) (in_data name : List ℕ) (found : DataVar) (outcome : Outcome) : Type 0 where
+  pub o : OverlapParts
+  pub overlap : IsOverlapOf source target o
+  pub outcome_of : IsOutcomeOfField masked (map_of o) found in_data name (Some p) outcome
+  pub makes : MakesField masked o name found outcome
 
 -- The data file holds no such variable in the folder at the start, and this is refused; or it holds one there, and the command makes a field of it.
-abbrev pub CarriesField : Bool → Folder → RawMesh → RawMesh → List ℕ → List ℕ → List ℕ → Outcome → Type 0
-CarriesField masked m source target var in_data name outcome =
+abbrev pub CarriesField : Bool → Folder → Folder → RawMesh → RawMesh → List ℕ → List ℕ → List ℕ → Outcome → Type 0
+CarriesField masked m p source target var in_data name outcome =
     ((why : FileRefusal NameFault) × IsRefusedFile (data_kind var) m in_data why × (outcome.status ≡ status_of (data_words var) why))
-    ⊎ ((found : DataVar) × IsDataFile m in_data var found × MakesField masked source target name found outcome)
+    ⊎ ((found : DataVar) × IsDataFile m in_data var found × MakesFieldOf masked p source target in_data name found outcome)
 
 -- After GenerateOverlapMesh on two meshes and GenerateOfflineMap on these and on the file that was written, ApplyOfflineMap on the map file carries a variable over by the map of the overlap of the two meshes.
 abbrev pub FieldAfterMap : Type 0
@@ -117,4 +123,4 @@ FieldAfterMap =
     (m n p : Folder) (words next last : List (List ℕ)) (a b ov map var in_data out : List ℕ) (workers : ℕ) (masked : Bool) (source target : RawMesh) (outcome : Outcome)
     → HoldsMeshes m a b source target → AsksOverlap words a b ov workers → IsDone words m n → options_of next ≡ Some (OfflineMap a b ov map) → IsDone next n p
     → AsksField last ov map var in_data out masked → IsOutcome (options_of last) (Some p) outcome
-    → CarriesField masked m source target var in_data out outcome
+    → CarriesField masked m p source target var in_data out outcome
