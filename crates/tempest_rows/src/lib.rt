@@ -14,6 +14,8 @@ mod loading;
 #[cfg(test)]
 mod machine;
 #[cfg(test)]
+mod maps;
+#[cfg(test)]
 mod meshes;
 #[cfg(test)]
 mod overlaps;
