@@ -119,9 +119,11 @@ fn with_short_numbers(alloc: Global) -> Result<Vec<u8>, AllocError> {
 }
 
 fn push_name(file: &mut Vec<u8>, name: &[u8]) -> Result<(), AllocError> {
-    file.extend_from_slice(&(name.len() as u32).to_be_bytes())?;
+    // (the names of these files are short)
+    file.extend_from_slice(&(name.len().min(255) as u32).to_be_bytes())?;
     file.extend_from_slice(name)?;
-    while file.len() % 4 > 0 {
+    // They are padded to a multiple of four bytes.
+    for _ in 0..(4 - file.len() % 4) % 4 {
         file.extend_from_slice(b"\0")?;
     }
     Ok(())
@@ -154,7 +156,7 @@ fn push_variable(
     begin: u64,
 ) -> Result<(), AllocError> {
     push_name(file, name)?;
-    file.extend_from_slice(&(dims.len() as u32).to_be_bytes())?;
+    file.extend_from_slice(&(dims.len().min(255) as u32).to_be_bytes())?;
     for dim in dims {
         file.extend_from_slice(&[0, 0, 0, *dim])?;
     }
