@@ -8,6 +8,8 @@ mod damaged;
 #[cfg(test)]
 mod failing;
 #[cfg(test)]
+mod fields;
+#[cfg(test)]
 mod generators;
 #[cfg(test)]
 mod loading;
@@ -27,6 +29,8 @@ mod rings;
 mod runs;
 #[cfg(test)]
 mod self_run;
+#[cfg(test)]
+mod spelled;
 #[cfg(test)]
 mod words;
 #[cfg(test)]
