@@ -26,7 +26,8 @@ impl Model for ClaimWord {
 
     ghost view = { λ c. record { table = c.table.shared.table_id; blocks = c.blocks } };
 
-    ghost invariant = { λ c. (c.table.shared.table_id.words ≡ 1) × (c.table.shared.table_id.slots ≡ 0) × (c.table.shared.key ≡ c.blocks) };
+    ghost invariant = { λ c. (c.table.shared.table_id.words ≡ 1)
+        × (c.table.shared.table_id.slots ≡ 0) × (c.table.shared.key ≡ c.blocks) };
 }
 
 /// The right to draw blocks, one for each worker. Contracts see what it has drawn.
@@ -45,7 +46,8 @@ impl Model for Ticket {
 
     ghost view = { λ t. record { table = t.seat.table_id; view = t.seat.me.0 } };
 
-    ghost invariant = { λ t. (t.seat.me.1 ≡ []) × (t.done ≡ is_done t.seat.me.0) × (is_spent t.seat.me.0.kind ≡ false) };
+    ghost invariant = { λ t. (t.seat.me.1 ≡ []) × (t.done ≡ is_done t.seat.me.0)
+        × (is_spent t.seat.me.0.kind ≡ false) };
 }
 
 /// A word at 0 for blocks 0 to `blocks` - 1, and the first ticket, which has drawn nothing.
@@ -120,7 +122,10 @@ pub fn rejoin(claims: &ClaimWord, ticket: &mut Ticket, other: Ticket)
     requires first { ticket.old.view.kind ≡ Kind.First }
     requires further { other.view.kind ≡ Kind.Further }
     ensures ours { IsTicketOf claims.now ticket.new }
-    ensures joined { ticket.new.view ≡ record ticket.old.view { mine = ticket.old.view.mine ++ other.view.mine; back = ticket.old.view.back + 1 } }
+    ensures joined { ticket.new.view ≡ record ticket.old.view {
+      mine = ticket.old.view.mine ++ other.view.mine;
+      back = ticket.old.view.back + 1;
+    } }
     ensures whole { IsWhole ticket.new.view }
 {
     let Ticket { seat, done: _ } = other;

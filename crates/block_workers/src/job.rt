@@ -38,7 +38,8 @@ pub trait BlockJob: Sync {
         ensures part { OnOk result (is_part self.now part.new) }
         ensures output { IfOk result (gives self.now part.new block) }
         // what was put in before stays
-        ensures kept { OnOk result ((s : ℕ) (x : Self.Output) → gives self.now part.old s x → gives self.now part.new s x) };
+        ensures kept { OnOk result ((s : ℕ) (x : Self.Output)
+            → gives self.now part.old s x → gives self.now part.new s x) };
 }
 
 /// What was told of a block, and which part it was put in.

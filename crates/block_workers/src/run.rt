@@ -39,7 +39,8 @@ pub fn run_blocks<R: Threads, J: BlockJob>(
     ensures workers { IfOk result (λ done. length done.parts.items ≡ workers) }
     ensures parts { IfOk result (λ done. All (J.is_part job.now) done.parts.items) }
     // each block was put in one of the parts, where it is what the job gives
-    ensures each { IfOk result (λ done. AllInPlace (IsPlacedBy (J.gives job.now) done.parts.items) done.blocks.items) }
+    ensures each { IfOk result (λ done.
+        AllInPlace (IsPlacedBy (J.gives job.now) done.parts.items) done.blocks.items) }
 {
     let (word, first) = claims(alloc, blocks)?;
     let all = spread(rt, alloc, job, &word, first, workers)?;
@@ -63,7 +64,8 @@ fn spread<R: Threads, J: BlockJob>(
     requires blocks { claims.now.blocks ≤ J.blocks job.now }
     requires first { IsFreshTicket claims.now Kind.First first }
     requires workers { (1 ≤ workers) × (first.view.made + workers ≤ 65) }
-    ensures shares { IfOk result (AreSharesOf (J.is_part job.now) (J.gives job.now) claims.now workers) }
+    ensures shares { IfOk result
+        (AreSharesOf (J.is_part job.now) (J.gives job.now) claims.now workers) }
     ensures made { IfOk result (λ shares. shares.ticket.view.made + 1 ≡ first.view.made + workers) }
     ensures back { IfOk result (λ shares. shares.ticket.view.back + 1 ≡ first.view.back + workers) }
     ensures done { IfOk result (λ shares. is_done_view shares.ticket.view ≡ true) }
@@ -78,12 +80,20 @@ fn spread<R: Threads, J: BlockJob>(
     let (theirs, ours) = join(
         rt,
         || -> Result<Share<J::Part, J::Output>, NoMemory>
-            requires { (claims.now.blocks ≤ J.blocks job.now) × IsFreshTicket claims.now Kind.Further further }
-            ensures { IfOk result (IsShareOf (J.is_part job.entry.now) (J.gives job.entry.now) claims.entry.now Kind.Further others) }
+            requires { (claims.now.blocks ≤ J.blocks job.now)
+                × IsFreshTicket claims.now Kind.Further further }
+            ensures { IfOk result (IsShareOf (J.is_part job.entry.now) (J.gives job.entry.now)
+                claims.entry.now Kind.Further others) }
         { work(alloc, job, claims, further, others) },
         || -> Result<Shares<J::Part, J::Output>, NoMemory>
-            requires { (claims.now.blocks ≤ J.blocks job.now) × IsFreshTicket claims.now Kind.First first × (1 ≤ others) × (first.view.made + others ≤ 65) }
-            ensures { IfOk result (λ shares. AreSharesOf (J.is_part job.entry.now) (J.gives job.entry.now) claims.entry.now others shares × (shares.ticket.view.made + 1 ≡ first.view.made + others) × (shares.ticket.view.back + 1 ≡ first.view.back + others) × (is_done_view shares.ticket.view ≡ true)) }
+            requires { (claims.now.blocks ≤ J.blocks job.now)
+                × IsFreshTicket claims.now Kind.First first
+                × (1 ≤ others) × (first.view.made + others ≤ 65) }
+            ensures { IfOk result (λ shares. AreSharesOf
+                (J.is_part job.entry.now) (J.gives job.entry.now) claims.entry.now others shares
+                × (shares.ticket.view.made + 1 ≡ first.view.made + others)
+                × (shares.ticket.view.back + 1 ≡ first.view.back + others)
+                × (is_done_view shares.ticket.view ≡ true)) }
         { spread(rt, alloc, job, claims, first, others) },
     );
     let theirs = theirs?;
@@ -122,9 +132,14 @@ fn joined<P: Drop, T: Drop>(
     requires first { ours.ticket.view.kind ≡ Kind.First }
     requires further { theirs.ticket.view.kind ≡ Kind.Further }
     ensures ours { IfOk result (λ shares. IsTicketOf claims.now shares.ticket) }
-    ensures joined { IfOk result (λ shares. shares.ticket.view ≡ record ours.ticket.view { mine = ours.ticket.view.mine ++ theirs.ticket.view.mine; back = ours.ticket.view.back + 1 }) }
-    ensures parts { IfOk result (λ shares. shares.parts.items ≡ ours.parts.items ++ theirs.part ∷ []) }
-    ensures finished { IfOk result (λ shares. shares.finished.items ≡ ours.finished.items ++ theirs.finished.items) }
+    ensures joined { IfOk result (λ shares. shares.ticket.view ≡ record ours.ticket.view {
+      mine = ours.ticket.view.mine ++ theirs.ticket.view.mine;
+      back = ours.ticket.view.back + 1;
+    }) }
+    ensures parts { IfOk result (λ shares.
+        shares.parts.items ≡ ours.parts.items ++ theirs.part ∷ []) }
+    ensures finished { IfOk result (λ shares.
+        shares.finished.items ≡ ours.finished.items ++ theirs.finished.items) }
     ensures whole { IfOk result (λ shares. IsWhole shares.ticket.view) }
 {
     let Shares {

@@ -38,7 +38,8 @@ impl<'a, G: Gate + Sync> BlockJob for Listed<'a, G> {
 
     ghost is_part = { λ _ _. ⊤ };
 
-    ghost gives = { λ job part block output. (output < length part.items) × (slice_index part.items output ≡ slice_index job.numbers.now block) };
+    ghost gives = { λ job part block output. (output < length part.items)
+        × (slice_index part.items output ≡ slice_index job.numbers.now block) };
 
     fn begin(&self, alloc: Global) -> Vec<u64> {
         Vec::new(alloc)
@@ -58,9 +59,12 @@ fn numbers_in_order(
     numbers: &[u64],
     done: &Parts<Vec<u64>, usize>,
 ) -> Result<Vec<u64>, NoMemory>
-    requires each { AllInPlace (IsPlacedBy (λ part s x. (x < length part.items) × (slice_index part.items x ≡ slice_index numbers.now s)) done.now.parts.items) done.now.blocks.items }
+    requires each { AllInPlace (IsPlacedBy (λ part s x. (x < length part.items)
+        × (slice_index part.items x ≡ slice_index numbers.now s)) done.now.parts.items)
+        done.now.blocks.items }
     ensures count { IfOk result (λ outputs. length outputs.items ≡ length done.now.blocks.items) }
-    ensures each { IfOk result (λ outputs. AllInPlace (λ s x. x ≡ slice_index numbers.now s) outputs.items) }
+    ensures each { IfOk result (λ outputs.
+        AllInPlace (λ s x. x ≡ slice_index numbers.now s) outputs.items) }
 {
     let mut outputs = Vec::with_capacity(alloc, done.blocks.len())?;
     for block in &done.blocks {
@@ -80,7 +84,8 @@ fn read_by_blocks<R: Threads, G: Gate + Sync>(
     requires workers { (1 ≤ workers) × (workers ≤ 64) }
     requires blocks { length numbers.now < 2 ^ 32 }
     ensures count { IfOk result (λ outputs. length outputs.items ≡ length numbers.now) }
-    ensures each { IfOk result (λ outputs. AllInPlace (λ s x. x ≡ slice_index numbers.now s) outputs.items) }
+    ensures each { IfOk result (λ outputs.
+        AllInPlace (λ s x. x ≡ slice_index numbers.now s) outputs.items) }
 {
     let job = Listed { numbers, gate };
     let done = run_blocks(rt, alloc, &job, numbers.len() as u32, workers)?;

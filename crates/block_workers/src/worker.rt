@@ -27,7 +27,8 @@ pub fn work<J: BlockJob>(
 ) -> Result<Share<J::Part, J::Output>, NoMemory>
     requires blocks { claims.now.blocks ≤ J.blocks job.now }
     requires ticket { IsFreshTicket claims.now ticket.view.kind ticket }
-    ensures share { IfOk result (IsShareOf (J.is_part job.now) (J.gives job.now) claims.now ticket.view.kind number) }
+    ensures share { IfOk result
+        (IsShareOf (J.is_part job.now) (J.gives job.now) claims.now ticket.view.kind number) }
     ensures made { IfOk result (λ share. share.ticket.view.made ≡ ticket.view.made) }
     ensures back { IfOk result (λ share. share.ticket.view.back ≡ ticket.view.back) }
     ensures done { IfOk result (λ share. is_done_view share.ticket.view ≡ true) }

@@ -61,7 +61,8 @@ pub trait PieceList: Sized + Drop {
         to: Place,
     ) -> Result<(), NoMemory>
         ensures { (pieces before between after : List OnePiece) → holds self.old pieces
-            → holds other.now (before ++ (between ++ after)) → is_behind before from → is_behind (before ++ between) to
+            → holds other.now (before ++ (between ++ after))
+            → is_behind before from → is_behind (before ++ between) to
             → OnOk result (holds self.new (pieces ++ between)) };
 }
 

@@ -24,5 +24,6 @@ impl Model for Overlap {
 
     ghost view = { λ o. record { faces_a = o.faces_a; faces_b = o.faces_b; pieces = o.pieces } };
 
-    ghost invariant = { λ o. IsSoundOverlap (record { faces_a = o.faces_a; faces_b = o.faces_b; pieces = o.pieces }) };
+    ghost invariant = { λ o. IsSoundOverlap
+        (record { faces_a = o.faces_a; faces_b = o.faces_b; pieces = o.pieces }) };
 }

@@ -50,7 +50,8 @@ pub fn has_negative(sides: &[i8]) -> bool
 pub fn rise(sides: &[i8]) -> Option<usize>
     ensures { let side = (λ (t : ℕ). slice_index_or sides.now t (pos 0)) in
         let next = after (length sides.now) in
-        MatchOption result ((t : ℕ) → t < length sides.now → side t ≤ℤ pos 0 → side (next t) ≤ℤ pos 0)
+        MatchOption result
+        ((t : ℕ) → t < length sides.now → side t ≤ℤ pos 0 → side (next t) ≤ℤ pos 0)
         (λ t. t < length sides.now × side t ≤ℤ pos 0 × pos 0 <ℤ side (next t)) }
 {
     for t in 0..sides.len() {

@@ -132,7 +132,8 @@ fn is_kept_away(a: &Mesh, i: u32, planes: &[Vec3], corners: &[Vec3]) -> bool
     requires corners { All Is75 corners.now }
     requires at { AreCorners planes.now corners.now }
     ensures { IsTrue result → (d : Direction)
-        → AllPositive (length planes.now) (vector_at planes.now) d → IsBeyondAnEdge (corners_of a.now i) d }
+        → AllPositive (length planes.now) (vector_at planes.now) d
+        → IsBeyondAnEdge (corners_of a.now i) d }
 {
     // The face is accepted.
     let _edges = edge_count(a, i);

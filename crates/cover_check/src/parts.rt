@@ -52,7 +52,8 @@ fn spread(
         → All (λ cell. IsAway a.now (corners_of b.now j) cell (slice_index faces.now skip)) cells }
     ensures divided { let Divides = IsDivided a.now (corners_of b.now j) in
         OnOk result ((all : List ℕ) (others : List PartView)
-        → Divides all (map view_of parts.old.items ++ (others ++ with_faces faces.now cells)) left.old
+        → Divides all
+        (map view_of parts.old.items ++ (others ++ with_faces faces.now cells)) left.old
         → Divides all (map view_of parts.new.items ++ others) left.new) }
     ensures sound { (n : ℕ) → length faces.now ≤ n → OnOk result (
         All (IsSoundPart a.now (corners_of b.now j) n) (map view_of parts.old.items)

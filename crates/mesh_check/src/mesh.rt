@@ -38,7 +38,8 @@ impl Model for Mesh {
 
     ghost view = { λ m. record { nodes = m.nodes.items; faces = face_lists m.faces.items } };
 
-    ghost invariant = { λ m. IsAcceptedMesh (record { nodes = m.nodes.items; faces = face_lists m.faces.items }) };
+    ghost invariant = { λ m. IsAcceptedMesh
+        (record { nodes = m.nodes.items; faces = face_lists m.faces.items }) };
 }
 
 /// How many faces the mesh has: at least one.

@@ -73,7 +73,8 @@ impl<'a, C: PieceList + Send + Sync, G: Gate + Sync> BlockJob for SourceBlocks<'
 
     ghost is_part = { λ _ own. HoldsSome C.holds own.pieces };
 
-    ghost gives = { λ job own s block. IsWaitingBlock C.holds C.is_behind own job.a.now job.b.now s block };
+    ghost gives = { λ job own s block.
+        IsWaitingBlock C.holds C.is_behind own job.a.now job.b.now s block };
 
     fn begin(&self, alloc: Global) -> Waiting<C> {
         Waiting {
