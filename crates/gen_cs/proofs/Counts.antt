@@ -5,7 +5,7 @@ use Rattle.std.proofs.lemmas.List.Elements.{All-from_recursion}
 use Rattle.vec_exact.specs.declared.panels.Panel.{Panel}
 use Rattle.vec_exact.specs.declared.panels.Panel.TheVariants.{PlusX, PlusY, MinusX, MinusY, PlusZ, MinusZ}
 use Rattle.gen_cs.specs.CubedSphere.{face_at, row_faces, panel_faces, faces_of, panels}
-use Rattle.gen_cs.proofs.Ranges.{length_even}
+use Rattle.vec_exact.proofs.Ranges.{length_even}
 use Rattle.gen_cs.proofs.Pieces.{all_flat, all_flat_range, all_range}
 
 count_panel : (nodes : List (List ℤ)) (n : ℕ) (panel : Panel) → length (panel_faces nodes n panel) ≡ n * n

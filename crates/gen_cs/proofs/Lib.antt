@@ -1,4 +1,3 @@
-pub mod Ranges
 mod Searches
 mod Rows
 mod NodeNumbers

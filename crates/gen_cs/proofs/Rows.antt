@@ -4,7 +4,7 @@ use Rattle.std.proofs.lemmas.Bool.Decides.{nat_tests}
 use Rattle.std.specs.List.{flat_map, range_with_len}
 use Rattle.gen_cs.specs.CubedSphere.{is_end, if_node, node_at, row_of, slice_of, nodes_of}
 use Rattle.gen_cs.specs.Before.{before_slice, before_row, before_place}
-use Rattle.gen_cs.proofs.Ranges.{length_even, length_behind_first, flat_range_more, flat_first, length_more}
+use Rattle.vec_exact.proofs.Ranges.{length_even, length_behind_first, flat_range_more, flat_first, length_more}
 
 or_is : (x y z : Bool) → (x || y) ≡ true → (x || y || z) ≡ true
 or_is true y z h = refl

@@ -5,7 +5,7 @@ use Rattle.std.specs.Prelude.{nat_le}
 use Rattle.std.specs.List.{flat_map, range_with_len}
 use Rattle.gen_ico.specs.Icosahedron.{base_triangles}
 use Rattle.gen_ico.specs.Icosahedral.{faces_at, faces_of, inverted, row_faces, triangle_faces, upright}
-use Rattle.gen_ico.proofs.Ranges.{length_even, length_more}
+use Rattle.vec_exact.proofs.Ranges.{length_even, length_more}
 
 two : (t : Bool) (x y : List ℤ) → t ≡ true → length (x ∷ cond t (y ∷ []) []) ≡ 2
 two t x y is = rw is refl

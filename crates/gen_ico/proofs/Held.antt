@@ -8,7 +8,7 @@ use Rattle.std.proofs.lemmas.List.Folds.{list_any-from_Any}
 use Rattle.std.proofs.lemmas.List.FromFn.{get_or-range_with_len, length-range_with_len}
 use Rattle.std.proofs.lemmas.List.Sums.{passes_at_first, position_or_len_is}
 use Rattle.gen_ico.specs.Dual.{behind, has_at, holds, is_followed, place_followed}
-use Rattle.gen_ico.proofs.Ranges.{get_or_again}
+use Rattle.gen_ico.proofs.Takes.{get_or_again}
 use Rattle.gen_ico.specs.Holding.{hit, hits, holding, holding_below}
 
 -- the first number of a list that passes, or d

@@ -1,4 +1,4 @@
-mod Ranges
+mod Takes
 mod Rounded
 mod Table
 mod Search

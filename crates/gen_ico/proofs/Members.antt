@@ -15,7 +15,7 @@ use Rattle.gen_ico.specs.Icosahedron.{base_triangles}
 use Rattle.gen_ico.specs.Icosahedral.{corner_component, faces_at, faces_of, inverted, number_at, number_of, point, point_component, points_of, row_faces, row_points, triangle_faces, triangle_points, upright, AreNodes}
 use Rattle.gen_ico.specs.Holding.{IsNumberTo, IsSmallNode, IsTriangle}
 use Rattle.gen_ico.proofs.Rounded.{rounded_at_most}
-use Rattle.gen_ico.proofs.Ranges.{get_or_again}
+use Rattle.gen_ico.proofs.Takes.{get_or_again}
 use Rattle.gen_ico.proofs.Table.{small_component}
 
 -- ---- lists of pieces

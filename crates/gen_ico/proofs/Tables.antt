@@ -8,7 +8,7 @@ use Rattle.std.proofs.lemmas.Int.{ints}
 use Rattle.std.proofs.lemmas.List.{get_or-replicate, length-replicate, get_or-set_other}
 use Rattle.std.proofs.lemmas.Grind.{get_or-set_at}
 use Rattle.gen_ico.specs.Holding.{hit, hits, holding_below, IsNumberTo, IsTableBelow, IsTriangle}
-use Rattle.gen_ico.proofs.Ranges.{flat_range_more}
+use Rattle.vec_exact.proofs.Ranges.{flat_range_more}
 
 not_same : (x y : ℤ) (b : Bool) → int_eq x y ≡ b → x ≢ y → int_eq x y ≡ false
 not_same x y true is differ = absurd (differ ((signed_Decides x y).0 is))

@@ -1,5 +1,5 @@
 use Rattle.std.proofs.Common.{rules}
-use Rattle.gen_cs.proofs.Ranges.{flat_behind, flat_range_more}
+use Rattle.vec_exact.proofs.Ranges.{flat_behind, flat_range_more}
 use Rattle.gen_cs.proofs.faces.put_panel.Goals as goal
 
 pub loop-j-preserved : goal.loop-j-preserved

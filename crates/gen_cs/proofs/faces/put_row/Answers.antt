@@ -1,5 +1,5 @@
 use Rattle.std.proofs.Common.{rules}
-use Rattle.gen_cs.proofs.Ranges.{map_behind}
+use Rattle.vec_exact.proofs.Ranges.{map_behind}
 use Rattle.gen_cs.proofs.faces.put_row.Goals as goal
 
 pub loop-i-preserved : goal.loop-i-preserved

@@ -1,5 +1,5 @@
 use Rattle.std.proofs.Common.{rules}
-use Rattle.gen_cs.proofs.Ranges.{flat_behind, flat_range_more}
+use Rattle.vec_exact.proofs.Ranges.{flat_behind, flat_range_more}
 use Rattle.gen_cs.proofs.nodes.all_nodes.Goals as goal
 
 pub loop-a-preserved : goal.loop-a-preserved

@@ -1,5 +1,5 @@
 use Rattle.std.proofs.Common.{rules}
-use Rattle.gen_ico.proofs.Ranges.{flat_behind, flat_range_more}
+use Rattle.vec_exact.proofs.Ranges.{flat_behind, flat_range_more}
 use Rattle.gen_ico.proofs.faces.put_row.Goals as goal
 
 pub loop-j-preserved : goal.loop-j-preserved

@@ -1,5 +1,5 @@
 use Rattle.std.proofs.Common.{rules}
-use Rattle.gen_ico.proofs.Ranges.{flat_behind, flat_range_more}
+use Rattle.vec_exact.proofs.Ranges.{flat_behind, flat_range_more}
 use Rattle.gen_ico.proofs.faces.put_triangle.Goals as goal
 
 pub loop-i-preserved : goal.loop-i-preserved

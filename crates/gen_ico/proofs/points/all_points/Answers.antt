@@ -2,7 +2,7 @@ use Rattle.std.proofs.Common.{◌∙◌, ◌++◌, [], ap, sym, take, add-one, a
 use Rattle.std.specs.List.{flat_map}
 use Rattle.gen_ico.specs.Icosahedron.{base_triangles}
 use Rattle.gen_ico.specs.Icosahedral.{triangle_points}
-use Rattle.gen_ico.proofs.Ranges.{flat_take}
+use Rattle.gen_ico.proofs.Takes.{flat_take}
 use Rattle.gen_ico.proofs.points.all_points.Goals as goal
 
 pub loop-s-preserved : goal.loop-s-preserved

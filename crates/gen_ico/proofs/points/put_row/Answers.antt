@@ -1,5 +1,5 @@
 use Rattle.std.proofs.Common.{rules}
-use Rattle.gen_ico.proofs.Ranges.{map_behind}
+use Rattle.vec_exact.proofs.Ranges.{map_behind}
 use Rattle.gen_ico.proofs.points.put_row.Goals as goal
 
 pub loop-j-preserved : goal.loop-j-preserved
