@@ -1,4 +1,5 @@
 // Files of the machine are replaced whole, or stay as they were.
+use crate::tests::same;
 use crate::{Files, HostFiles, PutErr};
 use std::fs::{self, Metadata, OpenFile, OpenOptions, Permissions};
 use std::io::{self, Error, ErrorKind, Read, Seek, SeekFrom, Write};
@@ -104,18 +105,20 @@ fn a_file_is_replaced_whole(rt: HostRuntime) -> Result<(), Fail> {
     fs::write(&rt, "whole.tmp", b"old")?;
     fs::set_permissions(&rt, "whole.tmp", Permissions::from_mode(0o640))?;
     fs::write(&rt, "whole.tmp.tempest-new", b"another's")?;
-    assert_eq!(rt; files.replace("whole.tmp", b"new bytes"), Ok(()));
-    assert_eq!(rt;
-        fs::read(&rt, "whole.tmp")?.as_slice(),
-        b"new bytes".as_slice()
+    same(&rt, &files.replace("whole.tmp", b"new bytes"), &Ok(()));
+    same(
+        &rt,
+        &fs::read(&rt, "whole.tmp")?.as_slice(),
+        &b"new bytes".as_slice(),
     );
-    assert_eq!(rt;
-        fs::read(&rt, "whole.tmp.tempest-new")?.as_slice(),
-        b"another's".as_slice()
+    same(
+        &rt,
+        &fs::read(&rt, "whole.tmp.tempest-new")?.as_slice(),
+        &b"another's".as_slice(),
     );
-    assert_eq!(rt; fs::exists(&rt, "whole.tmp.tempest-new1")?, false);
+    same(&rt, &fs::exists(&rt, "whole.tmp.tempest-new1")?, &false);
     let mode = fs::metadata(&rt, "whole.tmp")?.permissions().mode();
-    assert_eq!(rt; mode & 0o777, 0o640);
+    same(&rt, &(mode & 0o777), &0o640);
     fs::remove_file(&rt, "whole.tmp.tempest-new")?;
     fs::remove_file(&rt, "whole.tmp")?;
     Ok(())
@@ -125,11 +128,23 @@ fn a_file_is_replaced_whole(rt: HostRuntime) -> Result<(), Fail> {
 fn without_room_a_file_stays_as_it_was(rt: HostRuntime) -> Result<(), Fail> {
     let mut files = HostFiles::new(Full(rt));
     fs::write(&rt, "stays.tmp", b"old")?;
-    assert_eq!(rt; files.replace("stays.tmp", b"new"), Err(PutErr::Failed));
-    assert_eq!(rt; files.replace("none.tmp", b"new"), Err(PutErr::Failed));
-    assert_eq!(rt; fs::read(&rt, "stays.tmp")?.as_slice(), b"old".as_slice());
+    same(
+        &rt,
+        &files.replace("stays.tmp", b"new"),
+        &Err(PutErr::Failed),
+    );
+    same(
+        &rt,
+        &files.replace("none.tmp", b"new"),
+        &Err(PutErr::Failed),
+    );
+    same(
+        &rt,
+        &fs::read(&rt, "stays.tmp")?.as_slice(),
+        &b"old".as_slice(),
+    );
     for name in ["stays.tmp.tempest-new", "none.tmp", "none.tmp.tempest-new"] {
-        assert_eq!(rt; fs::exists(&rt, name)?, false, "{name}");
+        same(&rt, &fs::exists(&rt, name)?, &false);
     }
     fs::remove_file(&rt, "stays.tmp")?;
     Ok(())
@@ -140,9 +155,17 @@ fn a_link_is_written_in_place(rt: HostRuntime) -> Result<(), Fail> {
     let mut files = HostFiles::new(rt);
     fs::write(&rt, "target.tmp", b"a longer text")?;
     std::os::unix::fs::symlink(&rt, "target.tmp", "link.tmp")?;
-    assert_eq!(rt; files.replace("link.tmp", b"new"), Ok(()));
-    assert_eq!(rt; fs::symlink_metadata(&rt, "link.tmp")?.is_symlink(), true);
-    assert_eq!(rt; fs::read(&rt, "target.tmp")?.as_slice(), b"new".as_slice());
+    same(&rt, &files.replace("link.tmp", b"new"), &Ok(()));
+    same(
+        &rt,
+        &fs::symlink_metadata(&rt, "link.tmp")?.is_symlink(),
+        &true,
+    );
+    same(
+        &rt,
+        &fs::read(&rt, "target.tmp")?.as_slice(),
+        &b"new".as_slice(),
+    );
     fs::remove_file(&rt, "link.tmp")?;
     fs::remove_file(&rt, "target.tmp")?;
     Ok(())

@@ -1,29 +1,46 @@
 // What no clause says: real files and writers, and that calls succeed.
 use super::*;
+use std::fmt::Debug;
 use std::fs;
 use std::io::{self, Error, ErrorKind, Write};
+use std::process::Abort;
 use std::test::Fail;
+
+// Ends the test where the two differ. A call is cheaper to prove than an assertion, which prints both.
+pub fn same<T: PartialEq + Debug>(rt: &impl Abort, got: &T, want: &T) {
+    assert_eq!(rt; got, want);
+}
 
 #[test]
 fn real_files_are_replaced_and_read(rt: HostRuntime) -> Result<(), Fail> {
     let mut files = HostFiles::new(rt);
     let mut part = [0u8; 3];
-    assert_eq!(rt; files.size("no_such.tmp"), Err(FileErr::Absent));
-    assert_eq!(rt;
-        files.read_at("no_such.tmp", 0, &mut part),
-        Err(FileErr::Absent)
+    same(&rt, &files.size("no_such.tmp"), &Err(FileErr::Absent));
+    same(
+        &rt,
+        &files.read_at("no_such.tmp", 0, &mut part),
+        &Err(FileErr::Absent),
     );
-    assert_eq!(rt;
-        files.replace("no_such/a.tmp", b"hello"),
-        Err(PutErr::Failed)
+    same(
+        &rt,
+        &files.replace("no_such/a.tmp", b"hello"),
+        &Err(PutErr::Failed),
     );
-    assert_eq!(rt; files.read_at(".", 0, &mut part), Err(FileErr::Failed));
-    assert_eq!(rt; files.replace("a.tmp", b"a longer text"), Ok(()));
-    assert_eq!(rt; files.replace("a.tmp", b"hello"), Ok(()));
-    assert_eq!(rt; files.size("a.tmp"), Ok(5));
-    assert_eq!(rt; files.read_at("a.tmp", 1, &mut part), Ok(()));
-    assert_eq!(rt; part.as_slice(), b"ell".as_slice());
-    assert_eq!(rt; files.read_at("a.tmp", 3, &mut part), Err(FileErr::Failed));
+    same(
+        &rt,
+        &files.read_at(".", 0, &mut part),
+        &Err(FileErr::Failed),
+    );
+    same(&rt, &files.replace("a.tmp", b"a longer text"), &Ok(()));
+    same(&rt, &files.replace("a.tmp", b"hello"), &Ok(()));
+    same(&rt, &files.size("a.tmp"), &Ok(5));
+    same(&rt, &files.read_at("a.tmp", 1, &mut part), &Ok(()));
+    same(&rt, &part.as_slice(), &b"ell".as_slice());
+    same(
+        &rt,
+        &files.read_at("a.tmp", 3, &mut part),
+        &Err(FileErr::Failed),
+    );
     fs::remove_file(&rt, "a.tmp")?;
     Ok(())
 }
@@ -66,12 +83,12 @@ fn a_real_writer_has_all_bytes_flushed(rt: HostRuntime) -> Result<(), Fail> {
         room: 9,
     };
     let mut sink = HostSink::new(&mut tape);
-    assert_eq!(rt; sink.put(b"hello"), Ok(()));
-    assert_eq!(rt; sink.put(b"you"), Ok(()));
-    assert_eq!(rt; sink.put(b"!"), Err(PutErr::Failed), "the flush fails");
-    assert_eq!(rt; sink.put(b"?"), Err(PutErr::Failed), "the writing fails");
-    assert_eq!(rt; tape.bytes.as_slice(), b"helloyou!".as_slice());
-    assert_eq!(rt; tape.flushed, 8);
+    same(&rt, &sink.put(b"hello"), &Ok(()));
+    same(&rt, &sink.put(b"you"), &Ok(()));
+    same(&rt, &sink.put(b"!"), &Err(PutErr::Failed));
+    same(&rt, &sink.put(b"?"), &Err(PutErr::Failed));
+    same(&rt, &tape.bytes.as_slice(), &b"helloyou!".as_slice());
+    same(&rt, &tape.flushed, &8);
     Ok(())
 }
 
@@ -84,11 +101,11 @@ fn listed_calls_of_files_fail(rt: HostRuntime) -> Result<(), Fail> {
         (4, Ok(3), Ok(()), Ok(()), b"new"),
     ] {
         let mut files = MemFiles::new(rt.alloc(), [listed].to_vec(rt.alloc())?);
-        assert_eq!(rt; files.put_file("a.g", b"old"), Ok(()));
-        assert_eq!(rt; files.size("a.g"), size);
-        assert_eq!(rt; files.read_at("a.g", 0, &mut []), read);
-        assert_eq!(rt; files.replace("a.g", b"new"), replaced);
-        assert_eq!(rt; files.get("a.g"), Some(left.as_slice()));
+        same(&rt, &files.put_file("a.g", b"old"), &Ok(()));
+        same(&rt, &files.size("a.g"), &size);
+        same(&rt, &files.read_at("a.g", 0, &mut []), &read);
+        same(&rt, &files.replace("a.g", b"new"), &replaced);
+        same(&rt, &files.get("a.g"), &Some(left.as_slice()));
     }
     Ok(())
 }
@@ -97,10 +114,10 @@ fn listed_calls_of_files_fail(rt: HostRuntime) -> Result<(), Fail> {
 fn a_torn_replacement_leaves_a_prefix(rt: HostRuntime) -> Result<(), Fail> {
     let mut files = MemFiles::new(rt.alloc(), [1].to_vec(rt.alloc())?);
     files.torn(Torn::First(2));
-    assert_eq!(rt; files.replace("a.g", b"new"), Err(PutErr::Failed));
-    assert_eq!(rt; files.get("a.g"), Some(b"ne".as_slice()));
-    assert_eq!(rt; files.size("none.g"), Err(FileErr::Absent));
-    assert_eq!(rt; files.taken(), 0);
+    same(&rt, &files.replace("a.g", b"new"), &Err(PutErr::Failed));
+    same(&rt, &files.get("a.g"), &Some(b"ne".as_slice()));
+    same(&rt, &files.size("none.g"), &Err(FileErr::Absent));
+    same(&rt, &files.taken(), &0);
     Ok(())
 }
 
@@ -108,12 +125,12 @@ fn a_torn_replacement_leaves_a_prefix(rt: HostRuntime) -> Result<(), Fail> {
 fn listed_puts_of_a_sink_fail(rt: HostRuntime) -> Result<(), Fail> {
     let alloc = rt.alloc();
     let mut sink = MemSink::new(alloc, [1, 3, 4].to_vec(alloc)?);
-    assert_eq!(rt; sink.put(b"one"), Err(PutErr::Failed));
-    assert_eq!(rt; sink.put(b"two"), Ok(()));
+    same(&rt, &sink.put(b"one"), &Err(PutErr::Failed));
+    same(&rt, &sink.put(b"two"), &Ok(()));
     sink.torn(2);
-    assert_eq!(rt; sink.put(b"three"), Err(PutErr::Failed));
-    assert_eq!(rt; sink.put(b"4"), Err(PutErr::Failed));
-    assert_eq!(rt; sink.bytes(), b"twoth4".as_slice());
+    same(&rt, &sink.put(b"three"), &Err(PutErr::Failed));
+    same(&rt, &sink.put(b"4"), &Err(PutErr::Failed));
+    same(&rt, &sink.bytes(), &b"twoth4".as_slice());
     Ok(())
 }
 
@@ -122,14 +139,15 @@ fn steady_files_and_sinks_hold_what_they_are_given(rt: HostRuntime) -> Result<()
     let mut files = SteadyFiles::new(rt.alloc());
     let mut sink = SteadySink::new(rt.alloc());
     let mut part = [0u8; 2];
-    assert_eq!(rt; files.size("a.g"), Err(FileErr::Absent));
-    assert_eq!(rt; files.replace("a.g", b"hello"), Ok(()));
-    assert_eq!(rt; files.size("a.g"), Ok(5));
-    assert_eq!(rt; files.read_at("a.g", 3, &mut part), Ok(()));
-    assert_eq!(rt; part.as_slice(), b"lo".as_slice());
-    assert_eq!(rt; files.get("a.g"), Some(b"hello".as_slice()));
-    assert_eq!(rt; files.taken(), 2);
-    assert_eq!(rt; sink.put(&part), Ok(()));
-    assert_eq!(rt; sink.bytes(), b"lo".as_slice());
+    same(&rt, &files.size("a.g"), &Err(FileErr::Absent));
+    same(&rt, &files.replace("a.g", b"hello"), &Ok(()));
+    // (what is read next lies within these bytes)
+    assert!(rt; files.size("a.g") == Ok(5));
+    same(&rt, &files.read_at("a.g", 3, &mut part), &Ok(()));
+    same(&rt, &part.as_slice(), &b"lo".as_slice());
+    same(&rt, &files.get("a.g"), &Some(b"hello".as_slice()));
+    same(&rt, &files.taken(), &2);
+    same(&rt, &sink.put(&part), &Ok(()));
+    same(&rt, &sink.bytes(), &b"lo".as_slice());
     Ok(())
 }
