@@ -2,7 +2,7 @@
 use crate::generators::CS1 as CUBE;
 use crate::meshes::{equal_faces, with_small_meshes};
 use crate::reading::LongFiles;
-use crate::runs::{Run, words_of};
+use crate::runs::{Run, same, same_at, words_of};
 use remap_io::{MemFiles, MemSink};
 use std::alloc::{AllocError, Global};
 use std::test::Fail;
@@ -71,9 +71,9 @@ fn meshes_are_checked(rt: HostRuntime) -> Result<(), Fail> {
         }
         row.renew_sinks(rt.alloc());
         let status = row.go(&rt, rt.alloc(), text)?;
-        assert_eq!(rt; row.err.bytes(), b"".as_slice(), "at {text}");
-        assert_eq!(rt; status, Status::Done, "at {text}");
-        assert_eq!(rt; row.out.bytes(), put.as_bytes(), "at {text}");
+        row.tells(&rt, b"");
+        same_at(&rt, &status, &Status::Done, &text);
+        row.puts(&rt, put.as_bytes());
     }
     Ok(())
 }
@@ -177,9 +177,9 @@ fn checks_are_refused_in_order(rt: HostRuntime) -> Result<(), Fail> {
         row.out = MemSink::new(rt.alloc(), [1].to_vec(rt.alloc())?);
         let status = row.go(&rt, rt.alloc(), text)?;
         let line = format!(in rt.alloc(); "tempest: {line}\n")?;
-        assert_eq!(rt; status, want, "at {text}");
-        assert_eq!(rt; row.err.bytes(), line.as_bytes(), "at {text}");
-        assert_eq!(rt; row.out.bytes(), b"".as_slice(), "at {text}");
+        same_at(&rt, &status, &want, &text);
+        row.tells(&rt, line.as_bytes());
+        row.puts(&rt, b"");
     }
     Ok(())
 }
@@ -190,8 +190,8 @@ fn refused_checks_keep_their_status(rt: HostRuntime) -> Result<(), Fail> {
     for (text, want, _) in REFUSALS {
         let mut row = with_faults(rt.alloc())?;
         row.err = MemSink::new(rt.alloc(), [1].to_vec(rt.alloc())?);
-        assert_eq!(rt; row.go(&rt, rt.alloc(), text)?, want, "at {text}");
-        assert_eq!(rt; row.err.bytes(), b"".as_slice(), "at {text}");
+        same_at(&rt, &row.go(&rt, rt.alloc(), text)?, &want, &text);
+        row.tells(&rt, b"");
     }
     Ok(())
 }
@@ -256,12 +256,12 @@ fn failing_reads_of_checks_are_told(rt: HostRuntime) -> Result<(), Fail> {
         let mut row = with_failing_call(rt.alloc(), call)?;
         let status = row.go(&rt, rt.alloc(), text)?;
         let line = format!(in rt.alloc(); "tempest: {line}\n")?;
-        assert_eq!(rt; status, Status::ReadFault, "at {call} of {text}");
-        assert_eq!(rt; row.err.bytes(), line.as_bytes());
-        assert_eq!(rt; row.out.bytes(), b"".as_slice());
+        same_at(&rt, &status, &Status::ReadFault, &call);
+        row.tells(&rt, line.as_bytes());
+        row.puts(&rt, b"");
         row.renew_sinks(rt.alloc());
-        assert_eq!(rt; row.go(&rt, rt.alloc(), text)?, Status::Done);
-        assert_eq!(rt; row.out.bytes(), put.as_bytes());
+        same(&rt, &row.go(&rt, rt.alloc(), text)?, &Status::Done);
+        row.puts(&rt, put.as_bytes());
     }
     Ok(())
 }
@@ -271,8 +271,8 @@ fn failing_reads_of_checks_are_told(rt: HostRuntime) -> Result<(), Fail> {
 fn checks_only_read(rt: HostRuntime) -> Result<(), Fail> {
     for (text, call) in [(COVERAGE, 5u32), (CHECK, 3)] {
         let mut row = with_failing_call(rt.alloc(), call)?;
-        assert_eq!(rt; row.go(&rt, rt.alloc(), text)?, Status::Done, "at {text}");
-        assert_eq!(rt; row.files.get("a.g"), Some(CUBE.as_slice()));
+        same_at(&rt, &row.go(&rt, rt.alloc(), text)?, &Status::Done, &text);
+        row.holds(&rt, "a.g", Some(CUBE.as_slice()));
     }
     Ok(())
 }
@@ -285,12 +285,9 @@ fn a_failing_output_of_checks_is_told(rt: HostRuntime) -> Result<(), Fail> {
         row.out = MemSink::new(rt.alloc(), [1].to_vec(rt.alloc())?);
         row.out.torn(3);
         let status = row.go(&rt, rt.alloc(), text)?;
-        assert_eq!(rt; status, Status::WriteFault, "at {text}");
-        assert_eq!(rt;
-            row.err.bytes(),
-            b"tempest: write fault on output\n".as_slice()
-        );
-        assert_eq!(rt; row.out.bytes(), put, "at {text}");
+        same_at(&rt, &status, &Status::WriteFault, &text);
+        row.tells(&rt, b"tempest: write fault on output\n");
+        row.puts(&rt, put);
     }
     Ok(())
 }
@@ -303,8 +300,12 @@ fn a_mesh_too_long_for_checks_is_told(rt: HostRuntime) -> Result<(), Fail> {
         let mut out = MemSink::new(alloc, Vec::new(alloc));
         let mut err = MemSink::new(alloc, Vec::new(alloc));
         let status = run(&rt, alloc, &words, &mut LongFiles, &mut out, &mut err);
-        assert_eq!(rt; status, Status::Limit, "at {text}");
-        assert_eq!(rt; err.bytes(), b"tempest: a.g: 2147483648 bytes\n".as_slice());
+        same_at(&rt, &status, &Status::Limit, &text);
+        same(
+            &rt,
+            &err.bytes(),
+            &b"tempest: a.g: 2147483648 bytes\n".as_slice(),
+        );
     }
     Ok(())
 }
@@ -316,11 +317,8 @@ fn too_many_pieces_of_a_mesh_are_counted(rt: HostRuntime) -> Result<(), Fail> {
     row.out = MemSink::new(rt.alloc(), [1].to_vec(rt.alloc())?);
     row.place("equal.g", &equal_faces(rt.alloc())?)?;
     let text = "CheckMesh --workers 4 --file equal.g";
-    assert_eq!(rt; row.go(&rt, rt.alloc(), text)?, Status::Limit);
-    assert_eq!(rt;
-        row.err.bytes(),
-        b"tempest: too many pieces 8392609\n".as_slice()
-    );
-    assert_eq!(rt; row.out.bytes(), b"".as_slice());
+    same(&rt, &row.go(&rt, rt.alloc(), text)?, &Status::Limit);
+    row.tells(&rt, b"tempest: too many pieces 8392609\n");
+    row.puts(&rt, b"");
     Ok(())
 }

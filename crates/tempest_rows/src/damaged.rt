@@ -1,6 +1,6 @@
 // Damaged mesh files, given to the overlap command as its first mesh.
 use crate::generators::CS1;
-use crate::runs::Run;
+use crate::runs::{Run, same, same_at};
 use std::alloc::{AllocError, Global};
 use std::test::Fail;
 use tempest_top::Status;
@@ -67,10 +67,10 @@ fn a_damaged_mesh_file_is_told(rt: HostRuntime) -> Result<(), Fail> {
         let mut row = with_files(rt.alloc(), &bytes)?;
         let status = row.go(&rt, rt.alloc(), WORDS)?;
         let line = format!(in rt.alloc(); "tempest: bad.g: {text}\n")?;
-        assert_eq!(rt; status, want, "at {text}");
-        assert_eq!(rt; row.err.bytes(), line.as_bytes());
-        assert_eq!(rt; row.out.bytes(), b"".as_slice());
-        assert_eq!(rt; row.files.get("o.g"), None);
+        same_at(&rt, &status, &want, &text);
+        row.tells(&rt, line.as_bytes());
+        row.puts(&rt, b"");
+        row.holds(&rt, "o.g", None);
     }
     Ok(())
 }
@@ -93,8 +93,8 @@ fn a_cut_is_told(rt: HostRuntime) -> Result<(), Fail> {
         let mut row = with_files(rt.alloc(), cut)?;
         let status = row.go(&rt, rt.alloc(), WORDS)?;
         let line = format!(in rt.alloc(); "tempest: bad.g: {text}\n")?;
-        assert_eq!(rt; status, Status::Format, "at {len}");
-        assert_eq!(rt; row.err.bytes(), line.as_bytes());
+        same_at(&rt, &status, &Status::Format, &len);
+        row.tells(&rt, line.as_bytes());
     }
     Ok(())
 }
@@ -114,7 +114,7 @@ fn every_cut_is_a_fault_of_the_format(rt: HostRuntime) -> Result<(), Fail> {
         } else {
             "tempest: bad.g: data of variable 2 outside file\n"
         };
-        assert_eq!(rt; status, Status::Format, "at {len}");
+        same_at(&rt, &status, &Status::Format, &len);
         assert!(rt; row.err.bytes().starts_with(start.as_bytes()), "at {len}");
     }
     Ok(())
@@ -126,10 +126,7 @@ fn an_empty_file_of_the_format_lacks_its_names(rt: HostRuntime) -> Result<(), Fa
     let mut bytes = [0u8; 32];
     bytes[..4].copy_from_slice(b"CDF\x02");
     let mut row = with_files(rt.alloc(), &bytes)?;
-    assert_eq!(rt; row.go(&rt, rt.alloc(), WORDS)?, Status::Names);
-    assert_eq!(rt;
-        row.err.bytes(),
-        b"tempest: bad.g: missing coord\n".as_slice()
-    );
+    same(&rt, &row.go(&rt, rt.alloc(), WORDS)?, &Status::Names);
+    row.tells(&rt, b"tempest: bad.g: missing coord\n");
     Ok(())
 }

@@ -1,6 +1,6 @@
 // Calls of files and sinks that fail.
 use crate::generators::CS1;
-use crate::runs::Run;
+use crate::runs::{Run, same};
 use remap_io::{MemFiles, MemSink, Torn};
 use std::alloc::{AllocError, Global};
 use std::test::Fail;
@@ -24,17 +24,14 @@ fn with_failing_files(alloc: Global) -> Result<Run, AllocError> {
 fn a_failing_replacement_leaves_the_old_file(rt: HostRuntime) -> Result<(), Fail> {
     let mut row = with_failing_files(rt.alloc())?;
     let status = row.go(&rt, rt.alloc(), WORDS)?;
-    assert_eq!(rt; status, Status::WriteFault);
-    assert_eq!(rt;
-        row.err.bytes(),
-        b"tempest: write fault on cs1.g\n".as_slice()
-    );
-    assert_eq!(rt; row.out.bytes(), b"".as_slice());
-    assert_eq!(rt; row.files.get("cs1.g"), None);
+    same(&rt, &status, &Status::WriteFault);
+    row.tells(&rt, b"tempest: write fault on cs1.g\n");
+    row.puts(&rt, b"");
+    row.holds(&rt, "cs1.g", None);
     // The same words again, over the same files.
     let again = row.go(&rt, rt.alloc(), WORDS)?;
-    assert_eq!(rt; again, Status::Done);
-    assert_eq!(rt; row.files.get("cs1.g"), Some(CS1.as_slice()));
+    same(&rt, &again, &Status::Done);
+    row.holds(&rt, "cs1.g", Some(CS1.as_slice()));
     Ok(())
 }
 
@@ -43,8 +40,8 @@ fn a_torn_replacement_leaves_a_prefix(rt: HostRuntime) -> Result<(), Fail> {
     let mut row = with_failing_files(rt.alloc())?;
     row.files.torn(Torn::First(100));
     let status = row.go(&rt, rt.alloc(), WORDS)?;
-    assert_eq!(rt; status, Status::WriteFault);
-    assert_eq!(rt; row.files.get("cs1.g"), Some(&CS1[..100]));
+    same(&rt, &status, &Status::WriteFault);
+    row.holds(&rt, "cs1.g", Some(&CS1[..100]));
     Ok(())
 }
 
@@ -54,13 +51,10 @@ fn a_failing_output_leaves_the_whole_file(rt: HostRuntime) -> Result<(), Fail> {
     row.out = MemSink::new(rt.alloc(), first(rt.alloc())?);
     row.out.torn(5);
     let status = row.go(&rt, rt.alloc(), WORDS)?;
-    assert_eq!(rt; status, Status::WriteFault);
-    assert_eq!(rt;
-        row.err.bytes(),
-        b"tempest: write fault on output\n".as_slice()
-    );
-    assert_eq!(rt; row.out.bytes(), b"faces".as_slice());
-    assert_eq!(rt; row.files.get("cs1.g"), Some(CS1.as_slice()));
+    same(&rt, &status, &Status::WriteFault);
+    row.tells(&rt, b"tempest: write fault on output\n");
+    row.puts(&rt, b"faces");
+    row.holds(&rt, "cs1.g", Some(CS1.as_slice()));
     Ok(())
 }
 
@@ -70,7 +64,7 @@ fn a_failing_error_output_keeps_the_status(rt: HostRuntime) -> Result<(), Fail> 
     row.err = MemSink::new(rt.alloc(), first(rt.alloc())?);
     row.err.torn(4);
     let status = row.go(&rt, rt.alloc(), "GenerateCSMesh")?;
-    assert_eq!(rt; status, Status::Usage);
-    assert_eq!(rt; row.err.bytes(), b"temp".as_slice());
+    same(&rt, &status, &Status::Usage);
+    row.tells(&rt, b"temp");
     Ok(())
 }

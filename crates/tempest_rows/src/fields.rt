@@ -1,5 +1,5 @@
 // Fields that are carried over, by whole runs.
-use crate::runs::Run;
+use crate::runs::{Run, same, same_at};
 use crate::spelled::*;
 use remap_io::{MemFiles, MemSink};
 use std::alloc::{AllocError, Global};
@@ -120,11 +120,11 @@ fn fields_are_carried_over(rt: HostRuntime) -> Result<(), Fail> {
     for (map, data, text, put, field) in ROWS {
         let mut row = with_map_and_data(rt.alloc(), map, data)?;
         let status = row.go(&rt, rt.alloc(), text)?;
-        assert_eq!(rt; row.err.bytes(), b"".as_slice(), "at {put}");
-        assert_eq!(rt; status, Status::Done, "at {put}");
-        assert_eq!(rt; row.out.bytes(), put.as_bytes(), "at {put}");
+        row.tells(&rt, b"");
+        same_at(&rt, &status, &Status::Done, &put);
+        row.puts(&rt, put.as_bytes());
         let want = bytes_of(rt.alloc(), field)?;
-        assert_eq!(rt; row.files.get("o.nc"), Some(want.as_slice()), "at {put}");
+        row.holds(&rt, "o.nc", Some(want.as_slice()));
     }
     Ok(())
 }
@@ -195,11 +195,11 @@ fn maps_and_data_at_fault_are_told(rt: HostRuntime) -> Result<(), Fail> {
     for (map, data, text, want, told) in REFUSALS {
         let mut row = with_map_and_data(rt.alloc(), map, data)?;
         let status = row.go(&rt, rt.alloc(), text)?;
-        assert_eq!(rt; status, want, "at {told}");
+        same_at(&rt, &status, &want, &told);
         let line = line_of(rt.alloc(), told)?;
-        assert_eq!(rt; row.err.bytes(), line.as_bytes(), "at {told}");
-        assert_eq!(rt; row.out.bytes(), b"".as_slice(), "at {told}");
-        assert_eq!(rt; row.files.get("o.nc"), None, "at {told}");
+        row.tells(&rt, line.as_bytes());
+        row.puts(&rt, b"");
+        row.holds(&rt, "o.nc", None);
     }
     Ok(())
 }
@@ -210,9 +210,9 @@ fn rows_of_maps_at_fault_are_told(rt: HostRuntime) -> Result<(), Fail> {
     for (map, number) in [(OUT_OF_ORDER, 2), (OUT_OF_RANGE, 1)] {
         let mut row = with_map_and_data(rt.alloc(), map, FLOATS)?;
         let status = row.go(&rt, rt.alloc(), WORDS)?;
-        assert_eq!(rt; status, Status::Rows);
+        same(&rt, &status, &Status::Rows);
         let line = format!(in rt.alloc(); "tempest: m.nc: row {number}\n")?;
-        assert_eq!(rt; row.err.bytes(), line.as_bytes());
+        row.tells(&rt, line.as_bytes());
     }
     Ok(())
 }
@@ -230,14 +230,14 @@ fn with_a_failing_call<R: Abort + Threads>(
     row.place("m.nc", &bytes_of(alloc, TWO_ROWS)?)?;
     row.place("i.nc", &bytes_of(alloc, MINUS_FIVE_AND_ZERO)?)?;
     let status = row.go(rt, alloc, WORDS)?;
-    assert_eq!(rt; status, want, "at {call}");
-    assert_eq!(rt; row.err.bytes(), told.as_bytes(), "at {call}");
-    assert_eq!(rt; row.out.bytes(), b"".as_slice(), "at {call}");
-    assert_eq!(rt; row.files.get("o.nc"), None, "at {call}");
+    same_at(rt, &status, &want, &call);
+    row.tells(rt, told.as_bytes());
+    row.puts(rt, b"");
+    row.holds(rt, "o.nc", None);
     row.renew_sinks(alloc);
     let again = row.go(rt, alloc, WORDS)?;
-    assert_eq!(rt; again, Status::Done, "at {call}");
-    assert_eq!(rt; row.out.bytes(), MINUS_FIVE.as_bytes(), "at {call}");
+    same_at(rt, &again, &Status::Done, &call);
+    row.puts(rt, MINUS_FIVE.as_bytes());
     Ok(())
 }
 
@@ -260,13 +260,10 @@ fn a_failing_output_leaves_the_whole_field(rt: HostRuntime) -> Result<(), Fail> 
     let mut row = with_map_and_data(rt.alloc(), TWO_ROWS, MINUS_FIVE_AND_ZERO)?;
     row.out = MemSink::new(rt.alloc(), [1].to_vec(rt.alloc())?);
     let status = row.go(&rt, rt.alloc(), WORDS)?;
-    assert_eq!(rt; status, Status::WriteFault);
-    assert_eq!(rt;
-        row.err.bytes(),
-        b"tempest: write fault on output\n".as_slice()
-    );
+    same(&rt, &status, &Status::WriteFault);
+    row.tells(&rt, b"tempest: write fault on output\n");
     let want = bytes_of(rt.alloc(), BELOW_ZERO)?;
-    assert_eq!(rt; row.files.get("o.nc"), Some(want.as_slice()));
+    row.holds(&rt, "o.nc", Some(want.as_slice()));
     Ok(())
 }
 
@@ -275,13 +272,13 @@ fn a_failing_output_leaves_the_whole_field(rt: HostRuntime) -> Result<(), Fail> 
 fn missing_files_are_told(rt: HostRuntime) -> Result<(), Fail> {
     let mut row = Run::new(rt.alloc());
     let status = row.go(&rt, rt.alloc(), WORDS)?;
-    assert_eq!(rt; status, Status::NoFile);
-    assert_eq!(rt; row.err.bytes(), b"tempest: no file m.nc\n".as_slice());
+    same(&rt, &status, &Status::NoFile);
+    row.tells(&rt, b"tempest: no file m.nc\n");
     row.place("m.nc", &bytes_of(rt.alloc(), TWO_ROWS)?)?;
     row.renew_sinks(rt.alloc());
     let status = row.go(&rt, rt.alloc(), WORDS)?;
-    assert_eq!(rt; status, Status::NoFile);
-    assert_eq!(rt; row.err.bytes(), b"tempest: no file i.nc\n".as_slice());
+    same(&rt, &status, &Status::NoFile);
+    row.tells(&rt, b"tempest: no file i.nc\n");
     Ok(())
 }
 
@@ -301,7 +298,7 @@ fn with_a_map<R: Abort + Threads>(
         "GenerateOfflineMap --in_mesh a.g --out_mesh b.g --ov_mesh ab.g --out_map m.nc",
     ] {
         let status = row.go(rt, alloc, words)?;
-        assert_eq!(rt; status, Status::Done, "at {words}");
+        same_at(rt, &status, &Status::Done, &words);
     }
     row.place("i.nc", &bytes_of(alloc, data)?)?;
     row.renew_sinks(alloc);
@@ -318,13 +315,13 @@ fn a_field_on_octants_stays(rt: HostRuntime) -> Result<(), Fail> {
         OCTANTS,
     )?;
     let status = row.go(&rt, rt.alloc(), WORDS)?;
-    assert_eq!(rt; status, Status::Done);
-    assert_eq!(rt;
-        row.out.bytes(),
-        b"slices 1 source_mass 3885995363328 target_mass 3885995363328\n".as_slice()
+    same(&rt, &status, &Status::Done);
+    row.puts(
+        &rt,
+        b"slices 1 source_mass 3885995363328 target_mass 3885995363328\n",
     );
     let want = bytes_of(rt.alloc(), TO_EIGHT)?;
-    assert_eq!(rt; row.files.get("o.nc"), Some(want.as_slice()));
+    row.holds(&rt, "o.nc", Some(want.as_slice()));
     Ok(())
 }
 
@@ -353,13 +350,13 @@ fn fields_on_crossing_cubes(rt: HostRuntime) -> Result<(), Fail> {
             data,
         )?;
         let status = row.go(&rt, rt.alloc(), WORDS)?;
-        assert_eq!(rt; status, Status::Done);
+        same(&rt, &status, &Status::Done);
         assert!(rt; has_equal_masses(row.out.bytes()));
         let written = row.files.get("o.nc").map(|bytes| bytes.len());
-        assert_eq!(rt; written, Some(840));
+        same(&rt, &written, &Some(840));
         if let Some(field) = field {
             let want = bytes_of(rt.alloc(), field)?;
-            assert_eq!(rt; row.files.get("o.nc"), Some(want.as_slice()));
+            row.holds(&rt, "o.nc", Some(want.as_slice()));
         }
     }
     Ok(())

@@ -1,5 +1,5 @@
 // The generators.
-use crate::runs::{Run, words_of};
+use crate::runs::{Run, same, same_at, words_of};
 use remap_io::{SteadyFiles, SteadySink};
 use std::test::Fail;
 use tempest_top::{Status, run};
@@ -39,10 +39,10 @@ fn the_smallest_cubed_sphere_is_written(rt: HostRuntime) -> Result<(), Fail> {
     for text in SMALLEST {
         let mut row = Run::new(rt.alloc());
         let status = row.go(&rt, rt.alloc(), text)?;
-        assert_eq!(rt; status, Status::Done, "at {text}");
-        assert_eq!(rt; row.files.get("cs1.g"), Some(CS1.as_slice()));
-        assert_eq!(rt; row.out.bytes(), b"faces 6 nodes 8\n".as_slice());
-        assert_eq!(rt; row.err.bytes(), b"".as_slice());
+        same_at(&rt, &status, &Status::Done, &text);
+        row.holds(&rt, "cs1.g", Some(CS1.as_slice()));
+        row.puts(&rt, b"faces 6 nodes 8\n");
+        row.tells(&rt, b"");
     }
     Ok(())
 }
@@ -55,11 +55,11 @@ fn the_smallest_cubed_sphere_over_steady_types(rt: HostRuntime) -> Result<(), Fa
     let mut out = SteadySink::new(alloc);
     let mut err = SteadySink::new(alloc);
     let status = run(&rt, alloc, &words, &mut files, &mut out, &mut err);
-    assert_eq!(rt; status, Status::Done);
-    assert_eq!(rt; files.get("cs1.g"), Some(CS1.as_slice()));
-    assert_eq!(rt; files.taken(), 0);
-    assert_eq!(rt; out.bytes(), b"faces 6 nodes 8\n".as_slice());
-    assert_eq!(rt; err.bytes(), b"".as_slice());
+    same(&rt, &status, &Status::Done);
+    same(&rt, &files.get("cs1.g"), &Some(CS1.as_slice()));
+    same(&rt, &files.taken(), &0);
+    same(&rt, &out.bytes(), &b"faces 6 nodes 8\n".as_slice());
+    same(&rt, &err.bytes(), &b"".as_slice());
     Ok(())
 }
 
@@ -102,10 +102,10 @@ fn generated_meshes_have_their_text_and_length(rt: HostRuntime) -> Result<(), Fa
     for (text, put, len) in MESHES {
         let mut row = Run::new(rt.alloc());
         let status = row.go(&rt, rt.alloc(), text)?;
-        assert_eq!(rt; status, Status::Done, "at {text}");
-        assert_eq!(rt; row.out.bytes(), put.as_bytes());
+        same_at(&rt, &status, &Status::Done, &text);
+        row.puts(&rt, put.as_bytes());
         let written = row.files.get("m.g").map(|bytes| bytes.len());
-        assert_eq!(rt; written, Some(len), "at {text}");
+        same_at(&rt, &written, &Some(len), &text);
     }
     Ok(())
 }
@@ -136,7 +136,7 @@ fn the_faces_of_the_smallest_latitude_longitude_mesh(rt: HostRuntime) -> Result<
     let mut numbers = file.iter().skip(320 + 3).step_by(4);
     for face in TRIANGLES {
         for number in face {
-            assert_eq!(rt; numbers.next().copied(), Some(number));
+            same(&rt, &numbers.next().copied(), &Some(number));
         }
     }
     Ok(())

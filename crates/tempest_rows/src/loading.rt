@@ -1,7 +1,7 @@
 // Files that are loaded: values in both widths, a mesh by its name, and mesh files of other forms
 // than the generators write.
 use crate::generators::CS1;
-use crate::runs::Run;
+use crate::runs::{Run, same};
 use mesh_check::{face_count, node_count};
 use mesh_load::load_mesh;
 use nc_format::{NcFault, is_int};
@@ -41,21 +41,23 @@ fn values_of_a_file(rt: HostRuntime) -> Result<(), Fail> {
     let Ok((ints, longs)) = values_at(rt.alloc(), &mut files, "cs1.g", 1) else {
         return Err("values were expected".into());
     };
-    assert_eq!(rt;
-        ints.items.as_slice(),
-        [
-            5, 7, 8, 6, 7, 3, 4, 8, 3, 1, 2, 4, 1, 5, 6, 2, 6, 8, 4, 2, 1, 3, 7, 5
+    same(
+        &rt,
+        &ints.items.as_slice(),
+        &[
+            5, 7, 8, 6, 7, 3, 4, 8, 3, 1, 2, 4, 1, 5, 6, 2, 6, 8, 4, 2, 1, 3, 7, 5,
         ]
-        .as_slice()
+        .as_slice(),
     );
-    assert_eq!(rt;
-        longs.items.as_slice(),
-        [
-            5, 7, 8, 6, 7, 3, 4, 8, 3, 1, 2, 4, 1, 5, 6, 2, 6, 8, 4, 2, 1, 3, 7, 5
+    same(
+        &rt,
+        &longs.items.as_slice(),
+        &[
+            5, 7, 8, 6, 7, 3, 4, 8, 3, 1, 2, 4, 1, 5, 6, 2, 6, 8, 4, 2, 1, 3, 7, 5,
         ]
-        .as_slice()
+        .as_slice(),
     );
-    assert_eq!(rt; files.taken(), 440);
+    same(&rt, &files.taken(), &440);
     Ok(())
 }
 
@@ -68,16 +70,18 @@ fn a_mesh_and_its_refusals(rt: HostRuntime) -> Result<(), Fail> {
     let Ok(mesh) = load_mesh(rt.alloc(), &mut files, "cs1.g") else {
         return Err("a mesh was expected".into());
     };
-    assert_eq!(rt; face_count(&mesh), 6);
-    assert_eq!(rt; node_count(&mesh), 8);
-    assert_eq!(rt; files.taken(), 440);
-    assert_eq!(rt;
-        load_mesh(rt.alloc(), &mut files, "no_such.g").err(),
-        Some(FileRefusal::Load(LoadFault::Absent))
+    same(&rt, &face_count(&mesh), &6);
+    same(&rt, &node_count(&mesh), &8);
+    same(&rt, &files.taken(), &440);
+    same(
+        &rt,
+        &load_mesh(rt.alloc(), &mut files, "no_such.g").err(),
+        &Some(FileRefusal::Load(LoadFault::Absent)),
     );
-    assert_eq!(rt;
-        load_mesh(rt.alloc(), &mut files, "cut.g").err(),
-        Some(FileRefusal::Load(LoadFault::Format(NcFault::DataOutside(2))))
+    same(
+        &rt,
+        &load_mesh(rt.alloc(), &mut files, "cut.g").err(),
+        &Some(FileRefusal::Load(LoadFault::Format(NcFault::DataOutside(2)))),
     );
     Ok(())
 }
@@ -195,9 +199,9 @@ fn mesh_files_of_other_forms_are_read(rt: HostRuntime) -> Result<(), Fail> {
     ] {
         let mut row = Run::new(alloc);
         row.place("a.g", &file)?;
-        assert_eq!(rt; row.go(&rt, alloc, WORDS)?, Status::Done);
-        assert_eq!(rt; row.out.bytes(), b"pieces 6\n".as_slice());
-        assert_eq!(rt; row.files.taken(), taken);
+        same(&rt, &row.go(&rt, alloc, WORDS)?, &Status::Done);
+        row.puts(&rt, b"pieces 6\n");
+        same(&rt, &row.files.taken(), &taken);
     }
     Ok(())
 }
@@ -208,9 +212,9 @@ fn an_empty_file_is_read(rt: HostRuntime) -> Result<(), Fail> {
     let mut row = Run::new(rt.alloc());
     row.files = MemFiles::new(rt.alloc(), [2].to_vec(rt.alloc())?);
     row.place("a.g", b"")?;
-    assert_eq!(rt; row.go(&rt, rt.alloc(), WORDS)?, Status::ReadFault);
+    same(&rt, &row.go(&rt, rt.alloc(), WORDS)?, &Status::ReadFault);
     row.renew_sinks(rt.alloc());
-    assert_eq!(rt; row.go(&rt, rt.alloc(), WORDS)?, Status::Format);
-    assert_eq!(rt; row.err.bytes(), b"tempest: a.g: not netCDF\n".as_slice());
+    same(&rt, &row.go(&rt, rt.alloc(), WORDS)?, &Status::Format);
+    row.tells(&rt, b"tempest: a.g: not netCDF\n");
     Ok(())
 }

@@ -1,6 +1,6 @@
 // Maps, by whole runs.
 use crate::meshes::with_small_meshes;
-use crate::runs::Run;
+use crate::runs::{Run, same, same_at};
 use remap_io::{MemFiles, MemSink};
 use std::alloc::Global;
 use std::test::Fail;
@@ -35,9 +35,9 @@ const OCTANTS: &str =
 #[test]
 fn a_map_of_octants(rt: HostRuntime) -> Result<(), Fail> {
     let mut row = with_overlaps(&rt, rt.alloc())?;
-    assert_eq!(rt; row.go(&rt, rt.alloc(), OCTANTS)?, Status::Done);
-    assert_eq!(rt; row.err.bytes(), b"".as_slice());
-    assert_eq!(rt; row.out.bytes(), b"rows 8 sources 8 targets 8\n".as_slice());
+    same(&rt, &row.go(&rt, rt.alloc(), OCTANTS)?, &Status::Done);
+    row.tells(&rt, b"");
+    row.puts(&rt, b"rows 8 sources 8 targets 8\n");
     Ok(())
 }
 
@@ -48,24 +48,35 @@ fn the_file_of_a_map_of_octants(rt: HostRuntime) -> Result<(), Fail> {
     let mut row = with_overlaps(&rt, rt.alloc())?;
     row.go(&rt, rt.alloc(), OCTANTS)?;
     let file = row.files.get("m.nc").unwrap_or(b"");
-    assert_eq!(rt; file.len(), 672);
-    assert_eq!(rt; file.get(..4), Some(b"CDF\x05".as_slice()));
+    same(&rt, &file.len(), &672);
+    same(&rt, &file.get(..4), &Some(b"CDF\x05".as_slice()));
     for i in 0..8usize {
         let number = [0, 0, 0, i as u8 + 1];
         let measure = 107_944_315_648u64.to_be_bytes();
-        assert_eq!(rt; file.get(416 + 4 * i..420 + 4 * i), Some(number.as_slice()));
-        assert_eq!(rt; file.get(448 + 4 * i..452 + 4 * i), Some(number.as_slice()));
-        assert_eq!(rt;
-            file.get(480 + 8 * i..488 + 8 * i),
-            Some(measure.as_slice())
+        same(
+            &rt,
+            &(file.get(416 + 4 * i..420 + 4 * i)),
+            &Some(number.as_slice()),
         );
-        assert_eq!(rt;
-            file.get(544 + 8 * i..552 + 8 * i),
-            Some(measure.as_slice())
+        same(
+            &rt,
+            &(file.get(448 + 4 * i..452 + 4 * i)),
+            &Some(number.as_slice()),
         );
-        assert_eq!(rt;
-            file.get(608 + 8 * i..616 + 8 * i),
-            Some(measure.as_slice())
+        same(
+            &rt,
+            &(file.get(480 + 8 * i..488 + 8 * i)),
+            &Some(measure.as_slice()),
+        );
+        same(
+            &rt,
+            &(file.get(544 + 8 * i..552 + 8 * i)),
+            &Some(measure.as_slice()),
+        );
+        same(
+            &rt,
+            &(file.get(608 + 8 * i..616 + 8 * i)),
+            &Some(measure.as_slice()),
         );
     }
     Ok(())
@@ -159,10 +170,10 @@ fn maps_are_refused(rt: HostRuntime) -> Result<(), Fail> {
         let files = format!(in alloc; "--ov_mesh {overlap} --out_map m.nc")?;
         let words = format!(in alloc; "GenerateOfflineMap {meshes} {files}")?;
         let line = format!(in alloc; "tempest: {text}\n")?;
-        assert_eq!(rt; row.go(&rt, alloc, words.as_str())?, want, "at {text}");
-        assert_eq!(rt; row.err.bytes(), line.as_bytes());
-        assert_eq!(rt; row.out.bytes(), b"".as_slice());
-        assert_eq!(rt; row.files.get("m.nc"), None);
+        same_at(&rt, &row.go(&rt, alloc, words.as_str())?, &want, &text);
+        row.tells(&rt, line.as_bytes());
+        row.puts(&rt, b"");
+        row.holds(&rt, "m.nc", None);
     }
     Ok(())
 }
@@ -188,21 +199,22 @@ fn a_damaged_overlap_file_is_told(rt: HostRuntime) -> Result<(), Fail> {
     let whole = row.files.get("nested.g").unwrap_or(b"").to_vec(rt.alloc())?;
     for (offset, was, value, number) in CHANGES {
         let mut bytes = whole.as_slice().to_vec(rt.alloc())?;
-        assert_eq!(rt; bytes.get(offset).copied(), Some(was));
+        same(&rt, &bytes.get(offset).copied(), &Some(was));
         if let Some(byte) = bytes.get_mut(offset) {
             *byte = value;
         }
         row.place("nested.g", &bytes)?;
         row.renew_sinks(rt.alloc());
         let line = format!(in rt.alloc(); "tempest: nested.g: row {number}\n")?;
-        assert_eq!(rt;
-            row.go(&rt, rt.alloc(), NESTED)?,
-            Status::Rows,
-            "at {offset}"
+        same_at(
+            &rt,
+            &row.go(&rt, rt.alloc(), NESTED)?,
+            &Status::Rows,
+            &offset,
         );
-        assert_eq!(rt; row.err.bytes(), line.as_bytes());
-        assert_eq!(rt; row.out.bytes(), b"".as_slice());
-        assert_eq!(rt; row.files.get("m.nc"), None);
+        row.tells(&rt, line.as_bytes());
+        row.puts(&rt, b"");
+        row.holds(&rt, "m.nc", None);
     }
     Ok(())
 }
@@ -241,12 +253,12 @@ fn a_failing_call_is_told(rt: HostRuntime) -> Result<(), Fail> {
     for (i, (want, text)) in FAILING.iter().enumerate() {
         let mut row = with_octants(&rt, rt.alloc(), i as u32 + 1)?;
         let line = format!(in rt.alloc(); "tempest: {text}\n")?;
-        assert_eq!(rt; row.go(&rt, rt.alloc(), OCTANT)?, *want, "at {text}");
-        assert_eq!(rt; row.err.bytes(), line.as_bytes());
-        assert_eq!(rt; row.files.get("m.nc"), None);
+        same_at(&rt, &row.go(&rt, rt.alloc(), OCTANT)?, &*want, &text);
+        row.tells(&rt, line.as_bytes());
+        row.holds(&rt, "m.nc", None);
         row.renew_sinks(rt.alloc());
-        assert_eq!(rt; row.go(&rt, rt.alloc(), OCTANT)?, Status::Done, "at {text}");
-        assert_eq!(rt; row.out.bytes(), b"rows 1 sources 1 targets 1\n".as_slice());
+        same_at(&rt, &row.go(&rt, rt.alloc(), OCTANT)?, &Status::Done, &text);
+        row.puts(&rt, b"rows 1 sources 1 targets 1\n");
     }
     Ok(())
 }
@@ -255,12 +267,13 @@ fn a_failing_call_is_told(rt: HostRuntime) -> Result<(), Fail> {
 fn a_failing_output_leaves_the_whole_map(rt: HostRuntime) -> Result<(), Fail> {
     let mut row = with_octants(&rt, rt.alloc(), 8)?;
     row.out = MemSink::new(rt.alloc(), [1].to_vec(rt.alloc())?);
-    assert_eq!(rt; row.go(&rt, rt.alloc(), OCTANT)?, Status::WriteFault);
-    assert_eq!(rt;
-        row.err.bytes(),
-        b"tempest: write fault on output\n".as_slice()
-    );
+    same(&rt, &row.go(&rt, rt.alloc(), OCTANT)?, &Status::WriteFault);
+    row.tells(&rt, b"tempest: write fault on output\n");
     // one row: 416 bytes of header, a source, a target, a measure and two areas
-    assert_eq!(rt; row.files.get("m.nc").map(|bytes| bytes.len()), Some(448));
+    same(
+        &rt,
+        &row.files.get("m.nc").map(|bytes| bytes.len()),
+        &Some(448),
+    );
     Ok(())
 }

@@ -1,6 +1,6 @@
 // Overlaps, by whole runs.
 use crate::meshes::with_small_meshes;
-use crate::runs::Run;
+use crate::runs::{Run, same, same_at};
 use std::test::Fail;
 use tempest_top::Status;
 
@@ -63,11 +63,11 @@ fn overlaps_have_their_pieces_and_their_length(rt: HostRuntime) -> Result<(), Fa
         }
         row.renew_sinks(rt.alloc());
         let status = row.go(&rt, rt.alloc(), text)?;
-        assert_eq!(rt; row.err.bytes(), b"".as_slice(), "at {text}");
-        assert_eq!(rt; status, Status::Done, "at {text}");
-        assert_eq!(rt; row.out.bytes(), put.as_bytes(), "at {text}");
+        row.tells(&rt, b"");
+        same_at(&rt, &status, &Status::Done, &text);
+        row.puts(&rt, put.as_bytes());
         let written = row.files.get("o.g").map(|bytes| bytes.len());
-        assert_eq!(rt; written, Some(len), "at {text}");
+        same_at(&rt, &written, &Some(len), &text);
     }
     Ok(())
 }
@@ -85,7 +85,7 @@ fn opposite_octants_have_no_piece(rt: HostRuntime) -> Result<(), Fail> {
     let mut row = with_small_meshes(rt.alloc())?;
     let text = "GenerateOverlapMesh --a octant.g --b opposite.g --out o.g";
     row.go(&rt, rt.alloc(), text)?;
-    assert_eq!(rt; row.files.get("o.g"), Some(NO_PIECE.as_slice()));
+    row.holds(&rt, "o.g", Some(NO_PIECE.as_slice()));
     Ok(())
 }
 
@@ -108,11 +108,15 @@ fn the_first_piece_of_nested_cubes(rt: HostRuntime) -> Result<(), Fail> {
     }
     let file = row.files.get("o.g").unwrap_or(b"");
     // behind the header of 392 bytes stand 24 sources, 24 targets, 24 sizes of rings and the rings
-    assert_eq!(rt; file.get(392..396), Some(b"\0\0\0\x01".as_slice()));
-    assert_eq!(rt; file.get(488..492), Some(b"\0\0\0\x01".as_slice()));
-    assert_eq!(rt; file.get(584..585), Some(b"\x04".as_slice()));
-    assert_eq!(rt; file.get(608..612), Some(b"\x01\x06\x07\x04".as_slice()));
-    assert_eq!(rt; file.get(704..752), Some(FIRST_CORNERS.as_slice()));
+    same(&rt, &file.get(392..396), &Some(b"\0\0\0\x01".as_slice()));
+    same(&rt, &file.get(488..492), &Some(b"\0\0\0\x01".as_slice()));
+    same(&rt, &file.get(584..585), &Some(b"\x04".as_slice()));
+    same(
+        &rt,
+        &file.get(608..612),
+        &Some(b"\x01\x06\x07\x04".as_slice()),
+    );
+    same(&rt, &file.get(704..752), &Some(FIRST_CORNERS.as_slice()));
     Ok(())
 }
 
@@ -126,11 +130,20 @@ fn each_face_of_a_cube_over_itself_is_a_piece(rt: HostRuntime) -> Result<(), Fai
     for i in 0..24usize {
         let number = i as u8 + 1;
         let want = [0, 0, 0, number];
-        assert_eq!(rt; file.get(392 + 4 * i..396 + 4 * i), Some(want.as_slice()));
-        assert_eq!(rt; file.get(488 + 4 * i..492 + 4 * i), Some(want.as_slice()));
-        assert_eq!(rt;
-            file.get(608 + 4 * i..612 + 4 * i),
-            Some(b"\x01\x02\x03\x04".as_slice())
+        same(
+            &rt,
+            &(file.get(392 + 4 * i..396 + 4 * i)),
+            &Some(want.as_slice()),
+        );
+        same(
+            &rt,
+            &(file.get(488 + 4 * i..492 + 4 * i)),
+            &Some(want.as_slice()),
+        );
+        same(
+            &rt,
+            &(file.get(608 + 4 * i..612 + 4 * i)),
+            &Some(b"\x01\x02\x03\x04".as_slice()),
         );
     }
     Ok(())
@@ -156,10 +169,10 @@ fn crossing_cubes_share_four_corners_a_piece(rt: HostRuntime) -> Result<(), Fail
                 of_panel = of_panel.saturating_add(1);
             }
         }
-        assert_eq!(rt; of_panel, 16);
+        same(&rt, &of_panel, &16);
     }
     let sizes = file.get(1160..1256).unwrap_or(b"");
-    assert_eq!(rt; sizes.len(), 96);
+    same(&rt, &sizes.len(), &96);
     assert!(rt; sizes.iter().all(|size| *size == 4));
     Ok(())
 }
@@ -176,13 +189,13 @@ fn the_bytes_are_the_same_for_all_workers(rt: HostRuntime) -> Result<(), Fail> {
         "GenerateOverlapMesh --a cs2.g --b cs3.g --out all.g --workers 64",
     ] {
         let status = row.go(&rt, rt.alloc(), text)?;
-        assert_eq!(rt; status, Status::Done, "at {text}");
+        same_at(&rt, &status, &Status::Done, &text);
     }
     let one = row.files.get("one.g");
-    assert_eq!(rt; one.map(|bytes| bytes.len()), Some(6248));
-    assert_eq!(rt; row.files.get("two.g"), one);
-    assert_eq!(rt; row.files.get("seven.g"), one);
-    assert_eq!(rt; row.files.get("all.g"), one);
+    same(&rt, &one.map(|bytes| bytes.len()), &Some(6248));
+    row.holds(&rt, "two.g", one);
+    row.holds(&rt, "seven.g", one);
+    row.holds(&rt, "all.g", one);
     Ok(())
 }
 
@@ -192,13 +205,14 @@ fn an_overlap_may_replace_its_input(rt: HostRuntime) -> Result<(), Fail> {
     let text = "GenerateOverlapMesh --a cs1.g --b cs1.g --out cs1.g";
     row.go(&rt, rt.alloc(), CS1)?;
     row.renew_sinks(rt.alloc());
-    assert_eq!(rt; row.go(&rt, rt.alloc(), text)?, Status::Done);
-    assert_eq!(rt; row.out.bytes(), b"pieces 6\n".as_slice());
-    assert_eq!(rt; row.files.get("cs1.g").map(|bytes| bytes.len()), Some(760));
-    assert_eq!(rt; row.go(&rt, rt.alloc(), text)?, Status::Names);
-    assert_eq!(rt;
-        row.err.bytes(),
-        b"tempest: cs1.g: missing coord\n".as_slice()
+    same(&rt, &row.go(&rt, rt.alloc(), text)?, &Status::Done);
+    row.puts(&rt, b"pieces 6\n");
+    same(
+        &rt,
+        &row.files.get("cs1.g").map(|bytes| bytes.len()),
+        &Some(760),
     );
+    same(&rt, &row.go(&rt, rt.alloc(), text)?, &Status::Names);
+    row.tells(&rt, b"tempest: cs1.g: missing coord\n");
     Ok(())
 }

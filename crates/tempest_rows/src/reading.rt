@@ -1,6 +1,6 @@
 // How files are read, and files that can't be read.
 use crate::generators::CS1;
-use crate::runs::{Run, words_of};
+use crate::runs::{Run, same, same_at, words_of};
 use remap_io::{FileErr, Files, MemFiles, MemSink, PutErr, Torn};
 use std::test::Fail;
 use tempest_top::{Status, run};
@@ -12,9 +12,9 @@ fn a_missing_file_is_told(rt: HostRuntime) -> Result<(), Fail> {
     let mut row = Run::new(rt.alloc());
     row.place("cs1.g", &CS1)?;
     let text = "GenerateOverlapMesh --a cs1.g --b none.g --out o.g";
-    assert_eq!(rt; row.go(&rt, rt.alloc(), text)?, Status::NoFile);
-    assert_eq!(rt; row.err.bytes(), b"tempest: no file none.g\n".as_slice());
-    assert_eq!(rt; row.files.get("o.g"), None);
+    same(&rt, &row.go(&rt, rt.alloc(), text)?, &Status::NoFile);
+    row.tells(&rt, b"tempest: no file none.g\n");
+    row.holds(&rt, "o.g", None);
     Ok(())
 }
 
@@ -32,16 +32,17 @@ fn a_failing_read_is_told_and_the_same_words_can_run_again(rt: HostRuntime) -> R
         row.files = MemFiles::new(rt.alloc(), [call].to_vec(rt.alloc())?);
         row.place("cs1.g", &CS1)?;
         row.place("other.g", &CS1)?;
-        assert_eq!(rt;
-            row.go(&rt, rt.alloc(), words)?,
-            Status::ReadFault,
-            "at {call}"
+        same_at(
+            &rt,
+            &row.go(&rt, rt.alloc(), words)?,
+            &Status::ReadFault,
+            &call,
         );
-        assert_eq!(rt; row.err.bytes(), line, "at {call}");
-        assert_eq!(rt; row.files.get("o.g"), None);
+        row.tells(&rt, line);
+        row.holds(&rt, "o.g", None);
         row.renew_sinks(rt.alloc());
-        assert_eq!(rt; row.go(&rt, rt.alloc(), words)?, Status::Done, "at {call}");
-        assert_eq!(rt; row.out.bytes(), b"pieces 6\n".as_slice());
+        same_at(&rt, &row.go(&rt, rt.alloc(), words)?, &Status::Done, &call);
+        row.puts(&rt, b"pieces 6\n");
     }
     Ok(())
 }
@@ -51,12 +52,9 @@ fn a_failing_write_is_told(rt: HostRuntime) -> Result<(), Fail> {
     let mut row = Run::new(rt.alloc());
     row.files = MemFiles::new(rt.alloc(), [5].to_vec(rt.alloc())?);
     row.place("cs1.g", &CS1)?;
-    assert_eq!(rt; row.go(&rt, rt.alloc(), WORDS)?, Status::WriteFault);
-    assert_eq!(rt;
-        row.err.bytes(),
-        b"tempest: write fault on o.g\n".as_slice()
-    );
-    assert_eq!(rt; row.files.get("o.g"), None);
+    same(&rt, &row.go(&rt, rt.alloc(), WORDS)?, &Status::WriteFault);
+    row.tells(&rt, b"tempest: write fault on o.g\n");
+    row.holds(&rt, "o.g", None);
     Ok(())
 }
 
@@ -65,12 +63,13 @@ fn a_failing_output_leaves_the_whole_overlap(rt: HostRuntime) -> Result<(), Fail
     let mut row = Run::new(rt.alloc());
     row.out = MemSink::new(rt.alloc(), [1].to_vec(rt.alloc())?);
     row.place("cs1.g", &CS1)?;
-    assert_eq!(rt; row.go(&rt, rt.alloc(), WORDS)?, Status::WriteFault);
-    assert_eq!(rt;
-        row.err.bytes(),
-        b"tempest: write fault on output\n".as_slice()
+    same(&rt, &row.go(&rt, rt.alloc(), WORDS)?, &Status::WriteFault);
+    row.tells(&rt, b"tempest: write fault on output\n");
+    same(
+        &rt,
+        &row.files.get("o.g").map(|bytes| bytes.len()),
+        &Some(760),
     );
-    assert_eq!(rt; row.files.get("o.g").map(|bytes| bytes.len()), Some(760));
     Ok(())
 }
 
@@ -81,11 +80,8 @@ fn a_torn_mesh_file_is_told(rt: HostRuntime) -> Result<(), Fail> {
     row.files.torn(Torn::First(100));
     row.go(&rt, rt.alloc(), "GenerateCSMesh --res 1 --file cs1.g")?;
     row.renew_sinks(rt.alloc());
-    assert_eq!(rt; row.go(&rt, rt.alloc(), WORDS)?, Status::Format);
-    assert_eq!(rt;
-        row.err.bytes(),
-        b"tempest: cs1.g: truncated at 92\n".as_slice()
-    );
+    same(&rt, &row.go(&rt, rt.alloc(), WORDS)?, &Status::Format);
+    row.tells(&rt, b"tempest: cs1.g: truncated at 92\n");
     Ok(())
 }
 
@@ -101,12 +97,12 @@ fn a_large_mesh_is_read_in_parts(rt: HostRuntime) -> Result<(), Fail> {
     row.place("cs1.g", &CS1)?;
     row.renew_sinks(rt.alloc());
     let text = "GenerateOverlapMesh --a cs60.g --b cs1.g --out o.g";
-    assert_eq!(rt; row.go(&rt, rt.alloc(), text)?, Status::WriteFault);
-    assert_eq!(rt; row.files.taken(), 670_800);
+    same(&rt, &row.go(&rt, rt.alloc(), text)?, &Status::WriteFault);
+    same(&rt, &row.files.taken(), &670_800);
     row.renew_sinks(rt.alloc());
-    assert_eq!(rt; row.go(&rt, rt.alloc(), text)?, Status::Done);
-    assert_eq!(rt; row.out.bytes(), b"pieces 21600\n".as_slice());
-    assert_eq!(rt; row.files.taken(), 2 * 670_800);
+    same(&rt, &row.go(&rt, rt.alloc(), text)?, &Status::Done);
+    row.puts(&rt, b"pieces 21600\n");
+    same(&rt, &row.files.taken(), &(2 * 670_800));
     Ok(())
 }
 
@@ -117,9 +113,9 @@ fn a_long_tail_is_not_read(rt: HostRuntime) -> Result<(), Fail> {
     bytes.resize(1_000_440, 0)?;
     let mut row = Run::new(rt.alloc());
     row.place("cs1.g", &bytes)?;
-    assert_eq!(rt; row.go(&rt, rt.alloc(), WORDS)?, Status::Done);
-    assert_eq!(rt; row.out.bytes(), b"pieces 6\n".as_slice());
-    assert_eq!(rt; row.files.taken(), 131_072);
+    same(&rt, &row.go(&rt, rt.alloc(), WORDS)?, &Status::Done);
+    row.puts(&rt, b"pieces 6\n");
+    same(&rt, &row.files.taken(), &131_072);
     Ok(())
 }
 
@@ -158,10 +154,11 @@ fn a_file_too_long_is_told(rt: HostRuntime) -> Result<(), Fail> {
     let mut out = MemSink::new(alloc, Vec::new(alloc));
     let mut err = MemSink::new(alloc, Vec::new(alloc));
     let status = run(&rt, alloc, &words, &mut LongFiles, &mut out, &mut err);
-    assert_eq!(rt; status, Status::Limit);
-    assert_eq!(rt;
-        err.bytes(),
-        b"tempest: big.g: 2147483648 bytes\n".as_slice()
+    same(&rt, &status, &Status::Limit);
+    same(
+        &rt,
+        &err.bytes(),
+        &b"tempest: big.g: 2147483648 bytes\n".as_slice(),
     );
     Ok(())
 }

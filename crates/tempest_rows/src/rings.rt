@@ -1,4 +1,5 @@
 // Rings of faces of generated meshes.
+use crate::runs::same;
 use clip::{Ring, is_ring};
 use mesh_check::{check, face_count};
 use std::test::Fail;
@@ -16,7 +17,7 @@ fn a_face_over_itself_has_the_ring_of_its_edges(rt: HostRuntime) -> Result<(), F
     edges.push(2);
     edges.push(3);
     edges.push(4);
-    assert_eq!(rt; face_count(&mesh), 24);
+    same(&rt, &face_count(&mesh), &24);
     for face in 0..face_count(&mesh) {
         assert!(rt; is_ring(&mesh, face + 1, &mesh, face + 1, &edges));
     }

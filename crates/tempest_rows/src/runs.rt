@@ -1,8 +1,25 @@
 // A run of the program, for the rows.
 use remap_io::{MemFiles, MemSink};
 use std::alloc::{AllocError, Global};
+use std::fmt::{Debug, Display};
+use std::process::Abort;
 use std::thread::Threads;
 use tempest_top::{Status, run};
+
+/// Ends the test where the two differ. A call is cheaper to prove than an assertion in its place.
+pub(crate) fn same<T: PartialEq + Debug>(rt: &impl Abort, got: &T, want: &T) {
+    assert_eq!(rt; got, want);
+}
+
+/// The same, at a place of a table.
+pub(crate) fn same_at<T: PartialEq + Debug>(
+    rt: &impl Abort,
+    got: &T,
+    want: &T,
+    place: &impl Display,
+) {
+    assert_eq!(rt; got, want, "at {place}");
+}
 
 /// The words of a command line, parted at single spaces.
 pub(crate) fn words_of(alloc: Global, text: &str) -> Result<Vec<String>, AllocError> {
@@ -43,6 +60,21 @@ impl Run {
             Ok(()) => Ok(()),
             Err(_) => Err(AllocError),
         }
+    }
+
+    /// These bytes were put to the output.
+    pub(crate) fn puts(&self, rt: &impl Abort, want: &[u8]) {
+        assert_eq!(rt; self.out.bytes(), want);
+    }
+
+    /// These bytes were put to the error output.
+    pub(crate) fn tells(&self, rt: &impl Abort, want: &[u8]) {
+        assert_eq!(rt; self.err.bytes(), want);
+    }
+
+    /// The named file has these bytes, or isn't there.
+    pub(crate) fn holds(&self, rt: &impl Abort, name: &str, want: Option<&[u8]>) {
+        assert_eq!(rt; self.files.get(name), want);
     }
 
     /// Runs the words.

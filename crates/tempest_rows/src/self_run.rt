@@ -1,5 +1,5 @@
 // The whole chain in memory, by whole runs. The command touches no file.
-use crate::runs::Run;
+use crate::runs::{Run, same, same_at};
 use remap_io::{MemFiles, MemSink};
 use std::alloc::{AllocError, Global};
 use std::process::Abort;
@@ -38,8 +38,8 @@ fn done<R: Threads + Abort>(rt: &R, alloc: Global, text: &str) -> Result<Run, Al
     let mut row = Run::new(alloc);
     row.files = MemFiles::new(alloc, [1].to_vec(alloc)?);
     let status = row.go(rt, alloc, text)?;
-    assert_eq!(rt; row.err.bytes(), b"".as_slice(), "at {text}");
-    assert_eq!(rt; status, Status::Done, "at {text}");
+    row.tells(rt, b"");
+    same_at(rt, &status, &Status::Done, &text);
     Ok(row)
 }
 
@@ -60,7 +60,7 @@ fn large_self_runs_are_equal(rt: HostRuntime) -> Result<(), Fail> {
     assert!(rt; behind(first.out.bytes(), LARGE.as_bytes()).is_some());
     for text in ["SelfRun --n 60", "SelfRun --n 60 --workers 4"] {
         let again = done(&rt, rt.alloc(), text)?;
-        assert_eq!(rt; again.out.bytes(), first.out.bytes(), "at {text}");
+        again.puts(&rt, first.out.bytes());
     }
     Ok(())
 }
@@ -85,11 +85,8 @@ fn a_self_run_whose_output_fails(rt: HostRuntime) -> Result<(), Fail> {
     let mut row = Run::new(rt.alloc());
     row.out = MemSink::new(rt.alloc(), [1].to_vec(rt.alloc())?);
     let status = row.go(&rt, rt.alloc(), "SelfRun --n 1")?;
-    assert_eq!(rt; status, Status::WriteFault);
-    assert_eq!(rt; row.out.bytes(), b"".as_slice());
-    assert_eq!(rt;
-        row.err.bytes(),
-        b"tempest: write fault on output\n".as_slice()
-    );
+    same(&rt, &status, &Status::WriteFault);
+    row.puts(&rt, b"");
+    row.tells(&rt, b"tempest: write fault on output\n");
     Ok(())
 }

@@ -1,5 +1,5 @@
 // Words that are refused.
-use crate::runs::Run;
+use crate::runs::{Run, same_at};
 use std::test::Fail;
 use tempest_top::Status;
 
@@ -37,10 +37,10 @@ fn words_out_of_the_grammar_are_refused(rt: HostRuntime) -> Result<(), Fail> {
     for text in REFUSED {
         let mut row = Run::new(rt.alloc());
         let status = row.go(&rt, rt.alloc(), text)?;
-        assert_eq!(rt; status, Status::Usage, "at {text}");
-        assert_eq!(rt; row.err.bytes(), b"tempest: usage\n".as_slice());
-        assert_eq!(rt; row.out.bytes(), b"".as_slice());
-        assert_eq!(rt; row.files.get("cs1.g"), None);
+        same_at(&rt, &status, &Status::Usage, &text);
+        row.tells(&rt, b"tempest: usage\n");
+        row.puts(&rt, b"");
+        row.holds(&rt, "cs1.g", None);
     }
     Ok(())
 }

@@ -2,7 +2,7 @@
 ghost use Rattle.std.specs.Prelude.{◌≡◌, ◌<◌, ◌≤◌};
 
 use crate::meshes::equal_faces;
-use crate::runs::Run;
+use crate::runs::{Run, same};
 use cell_index::{build, candidates};
 use clip::{Overlap, Piece, clip};
 use mesh_check::{Mesh, check, face_count};
@@ -148,7 +148,7 @@ fn two_workers_meet(rt: HostRuntime) {
     let Ok(both) = found(&rt, rt.alloc(), &mesh, &mesh, 2, &gate) else {
         panic!(rt; "a fault");
     };
-    assert_eq!(rt; both.pieces.items.len(), 96);
+    same(&rt, &both.pieces.items.len(), &96);
     assert!(rt; gate.zero_came.was_seen());
     assert!(rt; gate.one_came.was_seen());
 }
@@ -180,7 +180,7 @@ fn three_blocks_are_drawn(rt: HostRuntime) {
     let Ok(one) = found(&rt, rt.alloc(), &mesh, &mesh, 1, &OpenGate) else {
         panic!(rt; "a fault");
     };
-    assert_eq!(rt; one.pieces.items.len(), 150);
+    same(&rt, &one.pieces.items.len(), &150);
     for (waiting, awaited) in [(0, 1), (0, 2), (1, 0), (1, 2), (2, 0), (2, 1)] {
         let gate = OneWaits {
             waiting,
@@ -223,9 +223,9 @@ fn each_block_is_entered_and_left(rt: HostRuntime) {
         let Ok(overlap) = found(&rt, rt.alloc(), &mesh, &mesh, workers, &gate) else {
             panic!(rt; "a fault");
         };
-        assert_eq!(rt; overlap.pieces.items.len(), 150);
-        assert_eq!(rt; gate.entered.load(Ordering::SeqCst), 3);
-        assert_eq!(rt; gate.left.load(Ordering::SeqCst), 3);
+        same(&rt, &overlap.pieces.items.len(), &150);
+        same(&rt, &gate.entered.load(Ordering::SeqCst), &3);
+        same(&rt, &gate.left.load(Ordering::SeqCst), &3);
     }
 }
 
@@ -275,12 +275,9 @@ fn too_many_pieces_are_counted(rt: HostRuntime) -> Result<(), Fail> {
     let mut row = Run::new(rt.alloc());
     row.place("equal.g", &equal_faces(rt.alloc())?)?;
     let text = "GenerateOverlapMesh --a equal.g --b equal.g --out o.g --workers 4";
-    assert_eq!(rt; row.go(&rt, rt.alloc(), text)?, Status::Limit);
-    assert_eq!(rt;
-        row.err.bytes(),
-        b"tempest: too many pieces 8392609\n".as_slice()
-    );
-    assert_eq!(rt; row.files.get("o.g"), None);
+    same(&rt, &row.go(&rt, rt.alloc(), text)?, &Status::Limit);
+    row.tells(&rt, b"tempest: too many pieces 8392609\n");
+    row.holds(&rt, "o.g", None);
     Ok(())
 }
 
@@ -320,12 +317,12 @@ fn candidate_count(alloc: Global, a: &Mesh, b: &Mesh) -> Result<usize, NoMemory>
 fn a_block_has_the_pieces_of_its_candidates(rt: HostRuntime) -> Result<(), Fail> {
     let alloc = rt.alloc();
     let cube = accepted(&rt, alloc, gen_cs::make(alloc, 1));
-    assert_eq!(rt; piece_count(alloc, &cube, &cube)?, 6);
-    assert_eq!(rt; candidate_count(alloc, &cube, &cube)?, 6);
+    same(&rt, &piece_count(alloc, &cube, &cube)?, &6);
+    same(&rt, &candidate_count(alloc, &cube, &cube)?, &6);
     let Ok(octants) = gen_rll::make(alloc, 4, 2) else {
         panic!(rt; "a fault");
     };
-    assert_eq!(rt; piece_count(alloc, &octants, &cube)?, 24);
-    assert_eq!(rt; candidate_count(alloc, &octants, &cube)?, 24);
+    same(&rt, &piece_count(alloc, &octants, &cube)?, &24);
+    same(&rt, &candidate_count(alloc, &octants, &cube)?, &24);
     Ok(())
 }
