@@ -1,17 +1,20 @@
--- What is appended target by target, and slice by slice.
+-- What is put target by target, and slice by slice.
 use Rattle.std.proofs.Common.{◌≡◌, ℕ, ◌+◌, ◌-◌, ◌<◌, ◌≤◌, ◌*◌, ℤ, pos, ◌≤ℤ◌, eqb, List, [], ◌∷◌, ◌++◌, length, map, get_or, take, ap, ap₂, subst, sym, ◌∙◌, refl, arith, append_assoc}
-use Rattle.std.specs.List.{All, range_with_len, flat_map}
-use Rattle.std.proofs.lemmas.List.{take_more, take_all, map-append}
+use Rattle.std.specs.List.{All}
+use Rattle.std.proofs.lemmas.List.{length-map}
 use Rattle.std.proofs.lemmas.List.Elements.{All-weaker, All-filter}
-use Rattle.std.proofs.lemmas.List.FromFn.{length-map-range_with_len, get_or-map-range_with_len}
+use Rattle.std.proofs.lemmas.List.FromFn.{get_or-map-range_with_len}
 use Rattle.map_rows.specs.declared.rows.MapRow.{MapRow}
 use Rattle.map_rows.specs.Maps.{MapParts, IsSoundMap, IsSoundRow, total, measure_of, target_of, rows_of, HasMeasure}
 use Rattle.map_rows.specs.Targets.{groups_of}
 use Rattle.map_rows.proofs.Groups.{count_next, count_most}
 use Rattle.map_rows.proofs.Bounds.{target_area, target_covered}
 use Rattle.apply_map.specs.Values.{HasValue, carried}
-use Rattle.map_rows.specs.Application.{area_at, divided, share_at, slice_of}
-use Rattle.vec_exact.proofs.Ranges.{flat_range_more}
+use Rattle.map_rows.specs.Application.{area_at, divided, share_at, application_of, whole_of, rest_of, wholes_of, rests_of}
+use Rattle.map_rows.specs.Places.{IsPut}
+use Rattle.map_rows.proofs.Masses.{length-application_of, part_in}
+use Rattle.map_rows.proofs.Places.{all_put}
+use Rattle.apply_map.specs.Fields.{whole_at, rest_at}
 use Rattle.map_rows.proofs.FaceSums.{length-sums_of}
 
 pub size_of_areas : (m : MapParts) → IsSoundMap m → length m.area_b ≡ m.n_b
@@ -36,20 +39,18 @@ one_slice_more slice n = grind arith
 has_value : (m : MapParts) (values : List ℤ) (slice first : ℕ) (r : MapRow) → (slice + 1) * m.n_a ≤ length values → first ≡ slice * m.n_a → IsSoundRow m.n_a m.n_b r → HasValue values first r
 has_value m values slice first r c e s = (s.source.0, omega (arith, s.source.0, s.source.1, c, e, one_slice_more slice m.n_a))
 
-pub rows_at : (m : MapParts) (values : List ℤ) (slice first j k : ℕ) (groups : List (List MapRow)) (rows : List MapRow) (areas : List ℤ) → IsSoundMap m → (slice + 1) * m.n_a ≤ length values
-    → first ≡ slice * m.n_a → groups ≡ groups_of m.n_b m.rows → areas ≡ m.area_b → j < m.n_b → k ≡ j → rows ≡ get_or groups k [] → AreRowsOf m values slice first j rows (get_or areas j (pos 0))
+pub rows_at : (m : MapParts) (values : List ℤ) (slice first j : ℕ) (rows : List MapRow) (area : ℤ) → IsSoundMap m → (slice + 1) * m.n_a ≤ length values → first ≡ slice * m.n_a → j < m.n_b
+    → rows ≡ get_or (groups_of m.n_b m.rows) j [] → area ≡ get_or m.area_b j (pos 0) → AreRowsOf m values slice first j rows area
 unfolding groups_of
-rows_at m values slice first j k groups rows areas s c e g a l place is =
+rows_at m values slice first j rows got s c e l is a =
     let mine = rows_of target_of m.rows (1 + j) in
-    let same : mine ≡ rows =
-    sym (is ∙ ap₂ (λ (xs : List (List MapRow)) (i : ℕ). get_or xs i []) g place ∙ get_or-map-range_with_len (rows_of target_of m.rows) 1 m.n_b j (1 + j) [] l refl)
-    in
-    let area : area_at m.area_b (1 + j) ≡ get_or areas j (pos 0) = sym (ap (λ (xs : List ℤ). get_or xs j (pos 0)) a ∙ area_read m j) in
+    let same : mine ≡ rows = sym (is ∙ get_or-map-range_with_len (rows_of target_of m.rows) 1 m.n_b j (1 + j) [] l refl) in
+    let area : area_at m.area_b (1 + j) ≡ got = sym (a ∙ area_read m j) in
     let sound = All-filter (λ (r : MapRow). eqb r.row (1 + j)) (IsSoundRow m.n_a m.n_b) m.rows s.rows in
     let first_j : 1 ≤ 1 + j = omega arith in
     let last_j : 1 + j ≤ m.n_b = omega (arith, l) in
     let total_is : area_at m.area_b (1 + j) ≡ total (map measure_of mine) = target_area m (1 + j) s first_j last_j in
-    subst (λ (xs : List MapRow). AreRowsOf m values slice first j xs (get_or areas j (pos 0))) same
+    subst (λ (xs : List MapRow). AreRowsOf m values slice first j xs got) same
     (subst (λ (x : ℤ). AreRowsOf m values slice first j mine x) area
     (record {
       are = refl;
@@ -61,23 +62,30 @@ rows_at m values slice first j k groups rows areas s c e g a l place is =
       share = ap (λ (f : ℕ). divided (total (map (carried values f) mine)) (area_at m.area_b (1 + j))) e;
     }))
 
--- ---- what is appended target by target, and slice by slice
-pub target_more : {S : Type 0} (f : S → ℤ) (share : ℕ → S) (n j : ℕ) (none : S) (x : ℤ) (old before new : List ℤ) → j < n → before ≡ old ++ map f (take j (map share (range_with_len 1 n)))
-    → new ≡ before ++ x ∷ [] → x ≡ f (share (1 + j)) → new ≡ old ++ map f (take (j + 1) (map share (range_with_len 1 n)))
-target_more {S} f share n j none x old before new l e step is =
-    let shares = map share (range_with_len 1 n) in
-    let read : get_or shares j none ≡ share (1 + j) = get_or-map-range_with_len share 1 n j (1 + j) none l refl in
-    let more : take (j + 1) shares ≡ take j shares ++ share (1 + j) ∷ [] =
-    take_more shares j none (omega (arith, l, length-map-range_with_len share 1 n)) ∙ ap (λ (s : S). take j shares ++ s ∷ []) read
-    in
-    step ∙ ap₂ (λ (xs : List ℤ) (y : ℤ). xs ++ y ∷ []) e is ∙ append_assoc old (map f (take j shares)) (f (share (1 + j)) ∷ [])
-    ∙ ap (λ (xs : List ℤ). old ++ xs) (sym (map-append f (take j shares) (share (1 + j) ∷ [])) ∙ ap (map f) (sym more))
+pub slice_within : (slice to n count : ℕ) → slice < to → to * n ≤ count → (slice + 1) * n ≤ count
+slice_within slice to n count l h = grind arith
 
-pub all_targets : {S : Type 0} (f : S → ℤ) (share : ℕ → S) (n j : ℕ) (old new : List ℤ) → n ≤ j → new ≡ old ++ map f (take j (map share (range_with_len 1 n))) → new ≡ old ++ map f (map share (range_with_len 1 n))
-all_targets {S} f share n j old new l e =
-    e ∙ ap (λ (xs : List S). old ++ map f xs) (take_all j (map share (range_with_len 1 n)) (omega (arith, l, length-map-range_with_len share 1 n)))
+-- what `apply` writes is the application
+pub all_wholes : (m : MapParts) (slices : ℕ) (values old new : List ℤ) → IsSoundMap m → length old ≡ slices * m.n_b → IsPut m.n_b (whole_at m values) 0 slices 0 m.n_b old new
+    → new ≡ wholes_of (application_of m slices values)
+all_wholes m slices values old new s size h =
+    all_put m.n_b (whole_at m values) slices old new (wholes_of (application_of m slices values)) s.target_faces.0 size
+    (length-map (application_of m slices values) whole_of ∙ length-application_of m slices values)
+    (λ slice k l below.
+    let place : k ≡ 1 + k - 1 = omega arith in
+    ap (λ (i : ℕ). get_or (wholes_of (application_of m slices values)) (slice * m.n_b + i) (pos 0)) place
+    ∙ part_in m slices values slice (1 + k) whole_of l (omega arith) (omega (arith, below))) h
 
-pub slice_more : {S : Type 0} (f : S → ℤ) (slice_of : ℕ → List S) (slice : ℕ) (before new : List ℤ) → before ≡ map f (flat_map slice_of (range_with_len 0 slice)) → new ≡ before ++ map f (slice_of slice)
-    → new ≡ map f (flat_map slice_of (range_with_len 0 (slice + 1)))
-slice_more f slice_of slice before new e step =
-    step ∙ ap (λ (xs : List ℤ). xs ++ map f (slice_of slice)) e ∙ sym (map-append f (flat_map slice_of (range_with_len 0 slice)) (slice_of slice)) ∙ ap (map f) (sym (flat_range_more slice_of slice))
+pub all_rests : (m : MapParts) (slices : ℕ) (values old new : List ℤ) → IsSoundMap m → length old ≡ slices * m.n_b → IsPut m.n_b (rest_at m values) 0 slices 0 m.n_b old new
+    → new ≡ rests_of (application_of m slices values)
+all_rests m slices values old new s size h =
+    all_put m.n_b (rest_at m values) slices old new (rests_of (application_of m slices values)) s.target_faces.0 size
+    (length-map (application_of m slices values) rest_of ∙ length-application_of m slices values)
+    (λ slice k l below.
+    let place : k ≡ 1 + k - 1 = omega arith in
+    ap (λ (i : ℕ). get_or (rests_of (application_of m slices values)) (slice * m.n_b + i) (pos 0)) place
+    ∙ part_in m slices values slice (1 + k) rest_of l (omega arith) (omega (arith, below))) h
+
+-- what holds of two lists holds of their equals
+pub of_equals : (P : List ℤ → List ℤ → Type 0) (a b c d : List ℤ) → a ≡ b → c ≡ d → P b d → P a c
+of_equals P a b c d e f h = subst (λ (xs : List ℤ). P xs c) (sym e) (subst (λ (ys : List ℤ). P b ys) (sym f) h)

@@ -1,59 +1,124 @@
 // What a map makes of a field.
-ghost use Rattle.std.specs.Prelude.{◌≡◌, ◌+◌, ◌*◌, ◌≤◌, ◌++◌, pos, ◌≤ℤ◌, All, IfOk, IfErr, OnOk, length, map};
+ghost use Rattle.std.specs.Prelude.{◌≡◌, ◌+◌, ◌*◌, ◌<◌, ◌≤◌, [], pos, ◌≤ℤ◌, All, IfOk, IfErr, OnOk, length, map, slice_index_or};
 ghost use Rattle.map_rows.specs.Maps.{total, measure_of, HasMeasure};
 ghost use Rattle.map_rows.specs.Targets.{groups_of};
-ghost use Rattle.map_rows.specs.Application.{divided, slice_of, application_of, wholes_of, rests_of, source_mass_of, target_mass_of};
+ghost use Rattle.map_rows.specs.Application.{divided, application_of, source_mass_of, target_mass_of};
 ghost use Rattle.map_rows.specs.Laws.{KeepsConstants, KeepsBounds, IsFieldOf};
-ghost use Rattle.apply_map.specs.Fields.{field_of, IsApplyFaultOf};
+ghost use Rattle.map_rows.specs.Places.{IsPut};
+ghost use Rattle.apply_map.specs.Fields.{field_of, whole_at, rest_at, IsApplyFaultOf};
 ghost use Rattle.apply_map.specs.Values.{HasValue, carried};
-ghost use Rattle.apply_map.specs.declared.fields.ApplyFault.TheVariants.{NoMemory as NoMemoryFault};
 
 use crate::sums::weighted_sum;
 use crate::{ApplyFault, Field};
-use map_rows::{Map, MapRow, Share, TargetRows, rows_by_target, share_of};
+use map_rows::{Divisor, Map, MapRow, Share, TargetRows, divisor_of, rows_by_target, share_by};
 use std::alloc::Global;
 use vec_exact::{Ints, Longs};
 
+// So many slices are carried over side by side, with one look at the rows of each target.
+const SIDE_BY_SIDE: u32 = 8;
+
+// Slices side by side, from the first up to the last.
+#[derive(Clone, Copy)]
+struct Block {
+    from: u32,
+    to: u32,
+}
+
 // What the target with these rows and this area gets in the slice whose values begin at `first`.
-fn target_share(rows: &[MapRow], area: i64, first: usize, values: &[i32]) -> Share
+fn target_share(rows: &[MapRow], divisor: Divisor, first: usize, values: &[i32]) -> Share
     requires count { length rows.now ≤ 8388608 }
     requires measures { All HasMeasure rows.now }
     requires values { All (HasValue values.now first) rows.now }
-    requires area { area ≡ total (map measure_of rows.now) }
-    requires covered { pos 1 ≤ℤ area }
+    requires area { divisor.area ≡ total (map measure_of rows.now) }
+    requires covered { pos 1 ≤ℤ divisor.area }
     ensures whole { result.whole
-        ≡ (divided (total (map (carried values.now first) rows.now)) area).whole }
+        ≡ (divided (total (map (carried values.now first) rows.now)) divisor.area).whole }
     ensures rest { result.rest
-        ≡ (divided (total (map (carried values.now first) rows.now)) area).rest }
+        ≡ (divided (total (map (carried values.now first) rows.now)) divisor.area).rest }
 {
-    share_of(weighted_sum(rows, first, values), area)
+    share_by(weighted_sum(rows, first, values), divisor)
 }
 
-// Appends what each target gets in this slice.
-fn append_slice(
+// Puts what the target at place `j` gets in the slices of a block.
+fn put_target(
+    map: &Map,
+    rows: &[MapRow],
+    j: usize,
+    block: Block,
+    values: &[i32],
+    whole: &mut [i32],
+    rest: &mut [i64],
+)
+    requires target { j < map.now.n_b }
+    requires rows { rows.now ≡ slice_index_or (groups_of map.now.n_b map.now.rows) j [] }
+    requires order { block.from ≤ block.to }
+    requires values { block.to * map.now.n_a ≤ length values.now }
+    requires whole { block.to * map.now.n_b ≤ length whole.old }
+    requires rest { block.to * map.now.n_b ≤ length rest.old }
+    ensures whole { IsPut map.now.n_b (whole_at map.now values.now) block.from block.to j (j + 1)
+        whole.old whole.new }
+    ensures rest { IsPut map.now.n_b (rest_at map.now values.now) block.from block.to j (j + 1)
+        rest.old rest.new }
+{
+    let areas: &[i64] = &map.area_b.items;
+    let divisor = divisor_of(areas[j]);
+    for slice in block.from..block.to {
+        let share = target_share(rows, divisor, slice as usize * map.n_a as usize, values);
+        let place = slice as usize * map.n_b as usize + j;
+        whole[place] = share.whole;
+        rest[place] = share.rest;
+    }
+}
+
+// Puts what each target gets in the slices of a block.
+fn put_block(
     map: &Map,
     by_target: &TargetRows,
-    slice: u32,
+    block: Block,
     values: &[i32],
-    whole: &mut Vec<i32>,
-    rest: &mut Vec<i64>,
-) -> Result<(), ApplyFault>
-    requires values { (slice + 1) * map.now.n_a ≤ length values.now }
+    whole: &mut [i32],
+    rest: &mut [i64],
+)
     requires rows { by_target.now ≡ groups_of map.now.n_b map.now.rows }
-    ensures whole { OnOk result (whole.new.items ≡ whole.old.items
-        ++ wholes_of (slice_of map.now values.now slice)) }
-    ensures rest { OnOk result (rest.new.items ≡ rest.old.items
-        ++ rests_of (slice_of map.now values.now slice)) }
-    ensures fault { IfErr result (λ fault. fault ≡ NoMemoryFault) }
+    requires order { block.from ≤ block.to }
+    requires values { block.to * map.now.n_a ≤ length values.now }
+    requires whole { block.to * map.now.n_b ≤ length whole.old }
+    requires rest { block.to * map.now.n_b ≤ length rest.old }
+    ensures whole { IsPut map.now.n_b (whole_at map.now values.now) block.from block.to 0
+        map.now.n_b whole.old whole.new }
+    ensures rest { IsPut map.now.n_b (rest_at map.now values.now) block.from block.to 0
+        map.now.n_b rest.old rest.new }
 {
-    let first = slice as usize * map.n_a as usize;
-    let areas: &[i64] = &map.area_b.items;
-    for (j, area) in areas.iter().enumerate() {
-        let share = target_share(by_target.of(j as u32 + 1), *area, first, values);
-        whole.push(share.whole)?;
-        rest.push(share.rest)?;
+    for j in 0..map.n_b {
+        let rows = by_target.of(j + 1);
+        put_target(map, rows, j as usize, block, values, whole, rest);
     }
-    Ok(())
+}
+
+// Puts what each target gets in each of so many slices.
+fn put_slices(
+    map: &Map,
+    by_target: &TargetRows,
+    slices: u32,
+    values: &[i32],
+    whole: &mut [i32],
+    rest: &mut [i64],
+)
+    requires rows { by_target.now ≡ groups_of map.now.n_b map.now.rows }
+    requires values { slices * map.now.n_a ≤ length values.now }
+    requires whole { slices * map.now.n_b ≤ length whole.old }
+    requires rest { slices * map.now.n_b ≤ length rest.old }
+    ensures whole { IsPut map.now.n_b (whole_at map.now values.now) 0 slices 0 map.now.n_b
+        whole.old whole.new }
+    ensures rest { IsPut map.now.n_b (rest_at map.now values.now) 0 slices 0 map.now.n_b
+        rest.old rest.new }
+{
+    let mut from = 0;
+    while from < slices {
+        let to = from + SIDE_BY_SIDE.min(slices - from);
+        put_block(map, by_target, Block { from, to }, values, whole, rest);
+        from = to;
+    }
 }
 
 /// The field over the targets of `map`, of so many slices, that it makes of `values`, which are
@@ -86,11 +151,9 @@ pub fn apply(alloc: Global, map: &Map, slices: u32, values: &[i32]) -> Result<Fi
     }
     let by_target = rows_by_target(alloc, map)?;
     let count = slices as usize * map.n_b as usize;
-    let mut whole = Vec::with_capacity(alloc, count)?;
-    let mut rest = Vec::with_capacity(alloc, count)?;
-    for slice in 0..slices {
-        append_slice(map, &by_target, slice, values, &mut whole, &mut rest)?;
-    }
+    let mut whole = vec![in alloc; 0i32; count]?;
+    let mut rest = vec![in alloc; 0i64; count]?;
+    put_slices(map, &by_target, slices, values, &mut whole, &mut rest);
     Ok(Field {
         whole: Ints { items: whole },
         rest: Longs { items: rest },

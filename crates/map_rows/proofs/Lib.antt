@@ -7,3 +7,4 @@ pub mod Floors
 pub mod Groups
 pub mod TwoRows
 pub mod AreaSums
+pub mod Places
