@@ -1,5 +1,5 @@
 -- What is put target by target, and slice by slice.
-use Rattle.std.proofs.Common.{◌≡◌, ℕ, ◌+◌, ◌-◌, ◌<◌, ◌≤◌, ◌*◌, ℤ, pos, ◌≤ℤ◌, eqb, List, [], ◌∷◌, ◌++◌, length, map, get_or, take, ap, ap₂, subst, sym, ◌∙◌, refl, arith, append_assoc}
+use Rattle.std.proofs.Common.{◌≡◌, ℕ, ◌+◌, ◌-◌, ◌<◌, ◌≤◌, ◌*◌, ℤ, pos, ◌≤ℤ◌, eqb, List, [], length, map, get_or, ap, subst, sym, ◌∙◌, refl, arith}
 use Rattle.std.specs.List.{All}
 use Rattle.std.proofs.lemmas.List.{length-map}
 use Rattle.std.proofs.lemmas.List.Elements.{All-weaker, All-filter}

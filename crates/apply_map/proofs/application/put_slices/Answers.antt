@@ -1,4 +1,4 @@
-use Rattle.std.proofs.Common.{◌+◌, ◌≤◌, arith, refl}
+use Rattle.std.proofs.Common.{◌+◌, ◌≤◌, arith}
 use Rattle.map_rows.proofs.Places.{more_slices}
 use Rattle.apply_map.specs.Fields.{whole_at, rest_at}
 use Rattle.apply_map.proofs.application.put_slices.Goals as goal

@@ -1,15 +1,13 @@
-use Rattle.std.proofs.Common.{rules, ◌≡◌, ◌<◌, ◌+◌, ◌-◌, ◌*◌, ◌≤◌, ◌≤ℤ◌, pos, ap, subst, sym, refl, ◌∙◌, length, map, get_or, set, ℕ, ℤ, List, arith}
+use Rattle.std.proofs.Common.{rules, ◌≡◌, ◌+◌, ◌*◌, ◌≤ℤ◌, pos, ap, subst, sym, ◌∙◌, length, get_or, set, ℕ, ℤ, List, arith}
 use mir.Syntax.{w32, w64}
 use mir.Val.{SFits, to_z, of_z}
 use Rattle.std.proofs.lemmas.Int.{to_z-of_z}
-use Rattle.map_rows.specs.Maps.{IsSoundMap, total}
-use Rattle.map_rows.specs.Targets.{groups_of}
-use Rattle.map_rows.specs.Application.{divided, share_at, whole_of, rest_of}
+use Rattle.map_rows.specs.Maps.{IsSoundMap}
+use Rattle.map_rows.specs.Application.{whole_of, rest_of}
 use Rattle.map_rows.proofs.Masses.{place_within}
 use Rattle.map_rows.proofs.Places.{no_slices, one_put, more_slices}
 use Rattle.std.proofs.lemmas.List.Elements.{All-get_or}
 use Rattle.apply_map.specs.Fields.{whole_at, rest_at}
-use Rattle.apply_map.specs.Values.{carried}
 use Rattle.apply_map.proofs.Slices.{size_of_areas, rows_at, slice_within}
 use Rattle.apply_map.proofs.application.put_target.Goals as goal
 
