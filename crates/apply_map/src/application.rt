@@ -10,19 +10,12 @@ ghost use Rattle.apply_map.specs.Values.{HasValue, carried};
 
 use crate::sums::weighted_sum;
 use crate::{ApplyFault, Field};
-use map_rows::{Divisor, Map, MapRow, Share, TargetRows, divisor_of, rows_by_target, share_by};
+use map_rows::{
+    Block, Divisor, Map, MapRow, Share, TargetRows, block_from, divisor_of, rows_by_target,
+    share_by,
+};
 use std::alloc::Global;
 use vec_exact::{Ints, Longs};
-
-// So many slices are carried over side by side, with one look at the rows of each target.
-const SIDE_BY_SIDE: u32 = 8;
-
-// Slices side by side, from the first up to the last.
-#[derive(Clone, Copy)]
-struct Block {
-    from: u32,
-    to: u32,
-}
 
 // What the target with these rows and this area gets in the slice whose values begin at `first`.
 fn target_share(rows: &[MapRow], divisor: Divisor, first: usize, values: &[i32]) -> Share
@@ -115,9 +108,9 @@ fn put_slices(
 {
     let mut from = 0;
     while from < slices {
-        let to = from + SIDE_BY_SIDE.min(slices - from);
-        put_block(map, by_target, Block { from, to }, values, whole, rest);
-        from = to;
+        let block = block_from(from, slices);
+        put_block(map, by_target, block, values, whole, rest);
+        from = block.to;
     }
 }
 

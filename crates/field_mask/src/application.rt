@@ -1,13 +1,14 @@
 // What a map makes of a field in which values may be absent.
-ghost use Rattle.std.specs.Prelude.{◌≡◌, ◌+◌, ◌*◌, ◌≤◌, ◌++◌, IfOk, IfErr, OnOk, length, map as map_over};
+ghost use Rattle.std.specs.Prelude.{◌≡◌, ◌+◌, ◌*◌, ◌<◌, ◌≤◌, [], IfOk, IfErr, OnOk, length, slice_index_or};
 ghost use Rattle.map_rows.specs.Targets.{groups_of};
-ghost use Rattle.field_mask.specs.Masked.{masked_slice_of, masked_application_of, masked_whole, masked_rest, masked_part, masked_field_of, present_mass_of, part_mass_of};
+ghost use Rattle.field_mask.specs.Masked.{masked_application_of, masked_whole, masked_rest, masked_part, masked_field_of, present_mass_of, part_mass_of};
+ghost use Rattle.map_rows.specs.Places.{IsPut};
+ghost use Rattle.field_mask.specs.Present.{masked_at};
 ghost use Rattle.field_mask.specs.Laws.{IsMaskedFieldOf, KeepsPresentConstants, KeepsPresentBounds, IsPlainWithoutAbsent, IsMaskFaultOf};
-ghost use Rattle.field_mask.specs.declared.fields.MaskFault.TheVariants.{NoMemory as NoMemoryFault};
 
 use crate::shares::{present_share, present_sums};
 use crate::{MaskFault, MaskedField};
-use map_rows::{Map, TargetRows, rows_by_target};
+use map_rows::{Block, Map, MapRow, TargetRows, block_from, divisor_of, rows_by_target};
 use std::alloc::Global;
 use vec_exact::{Ints, Longs};
 
@@ -19,34 +20,97 @@ struct Columns {
     part: Vec<i64>,
 }
 
-// Appends what each target gets in this slice.
-fn append_slice(
+// Puts what the target at place `j` gets in the slices of a block.
+fn put_target(
     map: &Map,
-    by_target: &TargetRows,
-    slice: u32,
+    rows: &[MapRow],
+    j: usize,
+    block: Block,
     values: &[i32],
     fill: Option<i32>,
     columns: &mut Columns,
-) -> Result<(), MaskFault>
-    requires values { (slice + 1) * map.now.n_a ≤ length values.now }
-    requires rows { by_target.now ≡ groups_of map.now.n_b map.now.rows }
-    ensures whole { OnOk result (columns.new.whole.items ≡ columns.old.whole.items
-        ++ map_over masked_whole (masked_slice_of map.now fill values.now slice)) }
-    ensures rest { OnOk result (columns.new.rest.items ≡ columns.old.rest.items
-        ++ map_over masked_rest (masked_slice_of map.now fill values.now slice)) }
-    ensures part { OnOk result (columns.new.part.items ≡ columns.old.part.items
-        ++ map_over masked_part (masked_slice_of map.now fill values.now slice)) }
-    ensures fault { IfErr result (λ fault. fault ≡ NoMemoryFault) }
+)
+    requires target { j < map.now.n_b }
+    requires rows { rows.now ≡ slice_index_or (groups_of map.now.n_b map.now.rows) j [] }
+    requires order { block.from ≤ block.to }
+    requires values { block.to * map.now.n_a ≤ length values.now }
+    requires whole { block.to * map.now.n_b ≤ length columns.old.whole.items }
+    requires rest { block.to * map.now.n_b ≤ length columns.old.rest.items }
+    requires part { block.to * map.now.n_b ≤ length columns.old.part.items }
+    ensures whole { IsPut map.now.n_b (masked_at masked_whole map.now fill values.now) block.from
+        block.to j (j + 1) columns.old.whole.items columns.new.whole.items }
+    ensures rest { IsPut map.now.n_b (masked_at masked_rest map.now fill values.now) block.from
+        block.to j (j + 1) columns.old.rest.items columns.new.rest.items }
+    ensures part { IsPut map.now.n_b (masked_at masked_part map.now fill values.now) block.from
+        block.to j (j + 1) columns.old.part.items columns.new.part.items }
 {
-    let first = slice as usize * map.n_a as usize;
-    for j in 0..map.n_b {
-        let present = present_sums(by_target.of(j + 1), first, values, fill);
-        let share = present_share(present, fill);
-        columns.whole.push(share.whole)?;
-        columns.rest.push(share.rest)?;
-        columns.part.push(share.part)?;
+    let areas: &[i64] = &map.area_b.items;
+    let divisor = divisor_of(areas[j]);
+    for slice in block.from..block.to {
+        let present = present_sums(rows, slice as usize * map.n_a as usize, values, fill);
+        let share = present_share(present, divisor, fill);
+        let place = slice as usize * map.n_b as usize + j;
+        columns.whole[place] = share.whole;
+        columns.rest[place] = share.rest;
+        columns.part[place] = share.part;
     }
-    Ok(())
+}
+
+// Puts what each target gets in the slices of a block.
+fn put_block(
+    map: &Map,
+    by_target: &TargetRows,
+    block: Block,
+    values: &[i32],
+    fill: Option<i32>,
+    columns: &mut Columns,
+)
+    requires rows { by_target.now ≡ groups_of map.now.n_b map.now.rows }
+    requires order { block.from ≤ block.to }
+    requires values { block.to * map.now.n_a ≤ length values.now }
+    requires whole { block.to * map.now.n_b ≤ length columns.old.whole.items }
+    requires rest { block.to * map.now.n_b ≤ length columns.old.rest.items }
+    requires part { block.to * map.now.n_b ≤ length columns.old.part.items }
+    ensures whole { IsPut map.now.n_b (masked_at masked_whole map.now fill values.now) block.from
+        block.to 0 map.now.n_b columns.old.whole.items columns.new.whole.items }
+    ensures rest { IsPut map.now.n_b (masked_at masked_rest map.now fill values.now) block.from
+        block.to 0 map.now.n_b columns.old.rest.items columns.new.rest.items }
+    ensures part { IsPut map.now.n_b (masked_at masked_part map.now fill values.now) block.from
+        block.to 0 map.now.n_b columns.old.part.items columns.new.part.items }
+{
+    for j in 0..map.n_b {
+        let rows = by_target.of(j + 1);
+        put_target(map, rows, j as usize, block, values, fill, columns);
+    }
+}
+
+// Puts what each target gets in each of so many slices.
+fn put_slices(
+    map: &Map,
+    by_target: &TargetRows,
+    slices: u32,
+    values: &[i32],
+    fill: Option<i32>,
+    columns: &mut Columns,
+)
+    requires rows { by_target.now ≡ groups_of map.now.n_b map.now.rows }
+    requires values { slices * map.now.n_a ≤ length values.now }
+    requires whole { slices * map.now.n_b ≤ length columns.old.whole.items }
+    requires rest { slices * map.now.n_b ≤ length columns.old.rest.items }
+    requires part { slices * map.now.n_b ≤ length columns.old.part.items }
+    ensures whole { IsPut map.now.n_b (masked_at masked_whole map.now fill values.now) 0 slices 0
+        map.now.n_b columns.old.whole.items columns.new.whole.items }
+    ensures rest { IsPut map.now.n_b (masked_at masked_rest map.now fill values.now) 0 slices 0
+        map.now.n_b columns.old.rest.items columns.new.rest.items }
+    ensures part { IsPut map.now.n_b (masked_at masked_part map.now fill values.now) 0 slices 0
+        map.now.n_b columns.old.part.items columns.new.part.items }
+{
+    let mut from = 0;
+    while from < slices {
+        let block = block_from(from, slices);
+        put_block(map, by_target, block, values, fill, columns);
+        from = block.to;
+    }
 }
 
 /// The field over the targets of `map`, of so many slices, that it makes of `values`, which are
@@ -91,13 +155,11 @@ pub fn apply_masked(
     let by_target = rows_by_target(alloc, map)?;
     let count = slices as usize * map.n_b as usize;
     let mut columns = Columns {
-        whole: Vec::with_capacity(alloc, count)?,
-        rest: Vec::with_capacity(alloc, count)?,
-        part: Vec::with_capacity(alloc, count)?,
+        whole: vec![in alloc; 0i32; count]?,
+        rest: vec![in alloc; 0i64; count]?,
+        part: vec![in alloc; 0i64; count]?,
     };
-    for slice in 0..slices {
-        append_slice(map, &by_target, slice, values, fill, &mut columns)?;
-    }
+    put_slices(map, &by_target, slices, values, fill, &mut columns);
     Ok(MaskedField {
         whole: Ints {
             items: columns.whole,

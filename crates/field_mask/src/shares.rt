@@ -1,11 +1,12 @@
 // What the present rows of a target carry over, and what the target gets.
 ghost use Rattle.std.specs.Prelude.{◌≡◌, ◌≤◌, ◌<◌, ◌^◌, pos, negsuc, ◌+ℤ◌, ◌*ℤ◌, ◌≤ℤ◌, ◌<ℤ◌, All, length, map, filter, unsigned_abs, true, false};
 ghost use Rattle.map_rows.specs.Maps.{total, measure_of, HasMeasure};
+ghost use Rattle.map_rows.specs.Application.{divided};
 ghost use Rattle.apply_map.specs.Values.{HasValue, carried};
 ghost use Rattle.field_mask.specs.Masked.{is_absent as is_absent_of, fill_or_zero, masked_share};
 ghost use Rattle.field_mask.specs.Present.{present_of};
 
-use map_rows::{MapRow, product, share_of};
+use map_rows::{Divisor, MapRow, Share, product, share_by, share_of};
 
 // The measures of present rows, added up, and the sum of measure times value over them.
 #[derive(Clone, Copy)]
@@ -70,8 +71,22 @@ pub fn present_sums(rows: &[MapRow], first: usize, values: &[i32], fill: Option<
     present
 }
 
-// What a target gets of what is present.
-pub fn present_share(present: Present, fill: Option<i32>) -> PresentShare
+// The share of what is present. Where all of a target is, its divisor serves.
+fn part_share(present: Present, divisor: Divisor) -> Share
+    requires some { pos 1 ≤ℤ present.part }
+    requires least { (present.part *ℤ negsuc 2147483647) ≤ℤ present.sum }
+    requires greatest { present.sum ≤ℤ (present.part *ℤ pos 2147483647) }
+    ensures whole { result.whole ≡ (divided present.sum present.part).whole }
+    ensures rest { result.rest ≡ (divided present.sum present.part).rest }
+{
+    if present.part == divisor.area {
+        return share_by(present.sum, divisor);
+    }
+    share_of(present.sum, present.part)
+}
+
+// What a target gets of what is present, by the divisor of its area.
+pub fn present_share(present: Present, divisor: Divisor, fill: Option<i32>) -> PresentShare
     requires nonneg { pos 0 ≤ℤ present.part }
     requires least { (present.part *ℤ negsuc 2147483647) ≤ℤ present.sum }
     requires greatest { present.sum ≤ℤ (present.part *ℤ pos 2147483647) }
@@ -86,7 +101,7 @@ pub fn present_share(present: Present, fill: Option<i32>) -> PresentShare
             part: 0,
         };
     }
-    let share = share_of(present.sum, present.part);
+    let share = part_share(present, divisor);
     PresentShare {
         whole: share.whole,
         rest: share.rest,

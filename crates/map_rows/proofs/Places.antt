@@ -48,14 +48,14 @@ one_put n goal s k xs new x l within e is =
     record {
       size = ap (length {A = ℤ}) e ∙ length-set xs (s * n + k) x;
       kept = λ p.
-        elim (same_or_not p (s * n + k)) [
-          | inl same ↦ inr (record { slice = s; target = k; within = l; is = same; value = ap (λ (q : ℕ). get_or new q (pos 0)) same ∙ here })
-          | inr other ↦ inl (ap (λ (ys : List ℤ). get_or ys p (pos 0)) e ∙ get_or-set_other xs (s * n + k) p x (pos 0) other)
-        ];
+          elim (same_or_not p (s * n + k)) [
+            | inl same ↦ inr (record { slice = s; target = k; within = l; is = same; value = ap (λ (q : ℕ). get_or new q (pos 0)) same ∙ here })
+            | inr other ↦ inl (ap (λ (ys : List ℤ). get_or ys p (pos 0)) e ∙ get_or-set_other xs (s * n + k) p x (pos 0) other)
+          ];
       done = λ t m a b c d.
-        let slice : t ≡ s = omega (arith, a, b) in
-        let target : m ≡ k = omega (arith, c, d) in
-        ap₂ (λ (i j : ℕ). get_or new (i * n + j) (pos 0)) slice target ∙ here ∙ ap₂ goal (sym slice) (sym target);
+          let slice : t ≡ s = omega (arith, a, b) in
+          let target : m ≡ k = omega (arith, c, d) in
+          ap₂ (λ (i j : ℕ). get_or new (i * n + j) (pos 0)) slice target ∙ here ∙ ap₂ goal (sym slice) (sym target);
     }
 
 pub more_slices : (n : ℕ) (goal : ℕ → ℕ → ℤ) (from middle to first last : ℕ) (a b c : List ℤ) → last ≤ n → IsPut n goal from middle first last a b → IsPut n goal middle to first last b c → IsPut n goal from to first last a c
@@ -63,10 +63,10 @@ more_slices n goal from middle to first last a b c l g h = record {
   size = h.size ∙ g.size;
   kept = then_kept n goal from middle first last middle to first last a b c g h;
   done = λ s k p q r t.
-    elim (cases_lt s middle) [
-      | inl below ↦ stays n goal middle to first last s k b c h (omega (arith, t, l)) (g.done s k p below r t)
-      | inr above ↦ h.done s k above q r t
-    ];
+      elim (cases_lt s middle) [
+        | inl below ↦ stays n goal middle to first last s k b c h (omega (arith, t, l)) (g.done s k p below r t)
+        | inr above ↦ h.done s k above q r t
+      ];
 }
 
 pub more_targets : (n : ℕ) (goal : ℕ → ℕ → ℤ) (from to first middle last : ℕ) (a b c : List ℤ) → last ≤ n → IsPut n goal from to first middle a b → IsPut n goal from to middle last b c → IsPut n goal from to first last a c
@@ -74,10 +74,10 @@ more_targets n goal from to first middle last a b c l g h = record {
   size = h.size ∙ g.size;
   kept = then_kept n goal from to first middle from to middle last a b c g h;
   done = λ s k p q r t.
-    elim (cases_lt k middle) [
-      | inl below ↦ stays n goal from to middle last s k b c h (omega (arith, t, l)) (g.done s k p q r below)
-      | inr above ↦ h.done s k p q above t
-    ];
+      elim (cases_lt k middle) [
+        | inl below ↦ stays n goal from to middle last s k b c h (omega (arith, t, l)) (g.done s k p q r below)
+        | inr above ↦ h.done s k p q above t
+      ];
 }
 
 -- all slices at all targets
