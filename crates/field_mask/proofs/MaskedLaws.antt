@@ -18,6 +18,9 @@ use Rattle.map_rows.proofs.Exchange.{exchange, measures, sources_among, targets_
 use Rattle.map_rows.proofs.Masses.{sum_over_same, area_times, get_or-blocks, place_within}
 use Rattle.map_rows.proofs.Bounds.{target_area, target_covered, sum_at_least, sum_at_most, of_rows, rest_within, whole_at_least, whole_at_most}
 use Rattle.field_mask.specs.Masked.{is_absent, is_present, present_rows, fill_or_zero, MaskedShare, masked_share, masked_share_at, masked_slice_of, masked_application_of, masked_whole, masked_rest, masked_part, masked_field_of, present_mass_of, part_mass_of}
+use Rattle.map_rows.specs.Places.{IsPut}
+use Rattle.map_rows.proofs.Places.{all_put}
+use Rattle.field_mask.specs.Present.{masked_number}
 use Rattle.field_mask.specs.Laws.{EachPresentSource, present_sources, IsRestOf, IsMaskedFieldOf, KeepsPresentConstants, KeepsPresentBounds, IsPlainWithoutAbsent}
 use Rattle.field_mask.proofs.MaskedSlices.{no_share}
 
@@ -344,3 +347,13 @@ masked_plain m slices fill values s count h =
           (λ slice k l. same_slice masked_rest rest_of (masked_share_at m fill values slice) (share_at m values slice) 1 m.n_b (λ j p q. ap masked_rest (plain_share m slices fill values slice j s count h (place slice j l p q))));
       parts = λ slice j p. share_in m slices fill values slice j masked_part p.0 p.1 p.2 ∙ ap masked_part (plain_share m slices fill values slice j s count h p);
     }
+
+-- ---- the numbers that were put in all places are those of the application
+pub all_masked : (m : MapParts) (slices : ℕ) (fill : Option ℤ) (values : List ℤ) (f : MaskedShare → ℤ) (old new : List ℤ) → IsSoundMap m → length old ≡ slices * m.n_b
+    → IsPut m.n_b (masked_number f m fill values) 0 slices 0 m.n_b old new → new ≡ map f (masked_application_of m slices fill values)
+all_masked m slices fill values f old new s size h =
+    let all = map f (masked_application_of m slices fill values) in
+    all_put m.n_b (masked_number f m fill values) slices old new all s.target_faces.0 size (length-map (masked_application_of m slices fill values) f ∙ length-masked m slices fill values)
+    (λ slice k l below.
+    let place : k ≡ 1 + k - 1 = omega arith in
+    ap (λ (i : ℕ). get_or all (slice * m.n_b + i) (pos 0)) place ∙ share_in m slices fill values slice (1 + k) f l (omega arith) (omega (arith, below))) h

@@ -19,13 +19,8 @@ share_is m fill values slice first j rows part sum f r e g =
     ap₂ (masked_share fill) (g ∙ ap₂ (λ (p : ℕ) (xs : List MapRow). total (map (carried values p) (filter (is_present_at fill values p) xs))) f r)
     (e ∙ ap₂ (λ (p : ℕ) (xs : List MapRow). total (map measure_of (filter (is_present_at fill values p) xs))) f r)
 
--- the field after the last slice
-pub field_is : (m : MapParts) (slices n : ℕ) (fill : Option ℤ) (values whole rest part : List ℤ) → n ≡ slices → whole ≡ map masked_whole (masked_application_of m n fill values)
-    → rest ≡ map masked_rest (masked_application_of m n fill values) → part ≡ map masked_part (masked_application_of m n fill values)
+-- the field of three lists
+pub field_is : (m : MapParts) (slices : ℕ) (fill : Option ℤ) (values whole rest part : List ℤ) → whole ≡ map masked_whole (masked_application_of m slices fill values)
+    → rest ≡ map masked_rest (masked_application_of m slices fill values) → part ≡ map masked_part (masked_application_of m slices fill values)
     → ◌≡◌ {A = MaskedField} (record { whole = whole; rest = rest; part = part }) (masked_field_of (masked_application_of m slices fill values))
-field_is m slices n fill values whole rest part e f g h =
-    let last : (u : MaskedShare → ℤ) → map u (masked_application_of m n fill values) ≡ map u (masked_application_of m slices fill values) = λ u. ap (λ (k : ℕ). map u (masked_application_of m k fill values)) e in
-    let f2 = f ∙ last masked_whole in
-    let g2 = g ∙ last masked_rest in
-    let h2 = h ∙ last masked_part in
-    λ i. record { whole = f2 i; rest = g2 i; part = h2 i }
+field_is m slices fill values whole rest part f g h = λ i. record { whole = f i; rest = g i; part = h i }

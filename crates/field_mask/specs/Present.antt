@@ -19,5 +19,5 @@ present_slice_mass_of fill areas values slice =
     sum_over 1 (length areas) (λ (i : ℕ). present_product fill (area_at areas i) (value_at values (length areas) slice i))
 
 -- one of the numbers that a target gets in a slice, both from 0
-abbrev pub masked_at : (MaskedShare → ℤ) → MapParts → Option ℤ → List ℤ → ℕ → ℕ → ℤ
-masked_at f m fill values slice target = f (masked_share_at m fill values slice (1 + target))
+abbrev pub masked_number : (MaskedShare → ℤ) → MapParts → Option ℤ → List ℤ → ℕ → ℕ → ℤ
+masked_number f m fill values slice target = f (masked_share_at m fill values slice (1 + target))

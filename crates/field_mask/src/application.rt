@@ -3,7 +3,7 @@ ghost use Rattle.std.specs.Prelude.{◌≡◌, ◌+◌, ◌*◌, ◌<◌, ◌≤
 ghost use Rattle.map_rows.specs.Targets.{groups_of};
 ghost use Rattle.field_mask.specs.Masked.{masked_application_of, masked_whole, masked_rest, masked_part, masked_field_of, present_mass_of, part_mass_of};
 ghost use Rattle.map_rows.specs.Places.{IsPut};
-ghost use Rattle.field_mask.specs.Present.{masked_at};
+ghost use Rattle.field_mask.specs.Present.{masked_number};
 ghost use Rattle.field_mask.specs.Laws.{IsMaskedFieldOf, KeepsPresentConstants, KeepsPresentBounds, IsPlainWithoutAbsent, IsMaskFaultOf};
 
 use crate::shares::{present_share, present_sums};
@@ -37,11 +37,11 @@ fn put_target(
     requires whole { block.to * map.now.n_b ≤ length columns.old.whole.items }
     requires rest { block.to * map.now.n_b ≤ length columns.old.rest.items }
     requires part { block.to * map.now.n_b ≤ length columns.old.part.items }
-    ensures whole { IsPut map.now.n_b (masked_at masked_whole map.now fill values.now) block.from
+    ensures whole { IsPut map.now.n_b (masked_number masked_whole map.now fill values.now) block.from
         block.to j (j + 1) columns.old.whole.items columns.new.whole.items }
-    ensures rest { IsPut map.now.n_b (masked_at masked_rest map.now fill values.now) block.from
+    ensures rest { IsPut map.now.n_b (masked_number masked_rest map.now fill values.now) block.from
         block.to j (j + 1) columns.old.rest.items columns.new.rest.items }
-    ensures part { IsPut map.now.n_b (masked_at masked_part map.now fill values.now) block.from
+    ensures part { IsPut map.now.n_b (masked_number masked_part map.now fill values.now) block.from
         block.to j (j + 1) columns.old.part.items columns.new.part.items }
 {
     let areas: &[i64] = &map.area_b.items;
@@ -71,11 +71,11 @@ fn put_block(
     requires whole { block.to * map.now.n_b ≤ length columns.old.whole.items }
     requires rest { block.to * map.now.n_b ≤ length columns.old.rest.items }
     requires part { block.to * map.now.n_b ≤ length columns.old.part.items }
-    ensures whole { IsPut map.now.n_b (masked_at masked_whole map.now fill values.now) block.from
+    ensures whole { IsPut map.now.n_b (masked_number masked_whole map.now fill values.now) block.from
         block.to 0 map.now.n_b columns.old.whole.items columns.new.whole.items }
-    ensures rest { IsPut map.now.n_b (masked_at masked_rest map.now fill values.now) block.from
+    ensures rest { IsPut map.now.n_b (masked_number masked_rest map.now fill values.now) block.from
         block.to 0 map.now.n_b columns.old.rest.items columns.new.rest.items }
-    ensures part { IsPut map.now.n_b (masked_at masked_part map.now fill values.now) block.from
+    ensures part { IsPut map.now.n_b (masked_number masked_part map.now fill values.now) block.from
         block.to 0 map.now.n_b columns.old.part.items columns.new.part.items }
 {
     for j in 0..map.n_b {
@@ -98,11 +98,11 @@ fn put_slices(
     requires whole { slices * map.now.n_b ≤ length columns.old.whole.items }
     requires rest { slices * map.now.n_b ≤ length columns.old.rest.items }
     requires part { slices * map.now.n_b ≤ length columns.old.part.items }
-    ensures whole { IsPut map.now.n_b (masked_at masked_whole map.now fill values.now) 0 slices 0
+    ensures whole { IsPut map.now.n_b (masked_number masked_whole map.now fill values.now) 0 slices 0
         map.now.n_b columns.old.whole.items columns.new.whole.items }
-    ensures rest { IsPut map.now.n_b (masked_at masked_rest map.now fill values.now) 0 slices 0
+    ensures rest { IsPut map.now.n_b (masked_number masked_rest map.now fill values.now) 0 slices 0
         map.now.n_b columns.old.rest.items columns.new.rest.items }
-    ensures part { IsPut map.now.n_b (masked_at masked_part map.now fill values.now) 0 slices 0
+    ensures part { IsPut map.now.n_b (masked_number masked_part map.now fill values.now) 0 slices 0
         map.now.n_b columns.old.part.items columns.new.part.items }
 {
     let mut from = 0;
