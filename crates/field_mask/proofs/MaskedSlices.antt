@@ -1,5 +1,5 @@
 -- What each target gets of what is present.
-use Rattle.std.proofs.Common.{◌≡◌, ℕ, ◌*◌, ℤ, pos, List, map, ap, ap₂, ◌∙◌, Option}
+use Rattle.std.proofs.Common.{◌≡◌, ℕ, ◌*◌, ℤ, pos, List, map, ap₂, ◌∙◌, Option}
 use Rattle.std.specs.List.{filter}
 use Rattle.map_rows.specs.declared.rows.MapRow.{MapRow}
 use Rattle.map_rows.specs.Maps.{MapParts, total, measure_of, target_of, rows_of}

@@ -1,4 +1,4 @@
-use Rattle.std.proofs.Common.{◌<◌, ◌≤◌, ◌≡◌, ℕ, List, ℤ, arith, subst}
+use Rattle.std.proofs.Common.{ℕ, arith, subst}
 use Rattle.map_rows.specs.Places.{IsPut}
 use Rattle.map_rows.proofs.Places.{more_slices}
 use Rattle.apply_map.specs.Fields.{whole_at, rest_at}

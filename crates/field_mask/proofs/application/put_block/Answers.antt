@@ -1,4 +1,4 @@
-use Rattle.std.proofs.Common.{rules, ◌≡◌, ◌+◌, ◌<◌, List, length, ap, arith}
+use Rattle.std.proofs.Common.{rules, ◌+◌, ◌<◌, List, length, ap, arith}
 use Rattle.map_rows.specs.declared.rows.MapRow.{MapRow}
 use Rattle.map_rows.proofs.Groups.{length-groups_of}
 use Rattle.map_rows.proofs.Places.{more_targets}

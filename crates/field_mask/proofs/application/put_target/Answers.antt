@@ -1,4 +1,4 @@
-use Rattle.std.proofs.Common.{rules, ◌≡◌, ◌<◌, ◌+◌, ◌*◌, ◌≤ℤ◌, pos, ap, subst, sym, refl, ◌∙◌, length, get_or, set, ℕ, ℤ, List, arith}
+use Rattle.std.proofs.Common.{rules, ◌≡◌, ◌+◌, ◌*◌, ◌≤ℤ◌, pos, ap, subst, sym, refl, ◌∙◌, length, get_or, set, ℕ, ℤ, List, arith}
 use mir.Syntax.{w32, w64}
 use mir.Val.{SFits, to_z, of_z}
 use Rattle.std.proofs.lemmas.Int.{to_z-of_z}
