@@ -1,10 +1,11 @@
 -- Blocks, one behind another: how many there are, and that the first fault stays.
-use Rattle.std.proofs.Common.{◌≡◌, ◌<◌, ◌+◌, ◌-◌, ℕ, refl, zero, suc, List, [], ◌∷◌, ◌++◌, length, Result, Ok, Err, ap, sym, subst, ◌∙◌, arith, length-append}
+use Rattle.std.proofs.Common.{◌≡◌, ◌⊎◌, ◌<◌, ◌+◌, ◌-◌, ℕ, refl, zero, suc, List, [], ◌∷◌, ◌++◌, length, Result, Ok, Err, ap, sym, subst, ◌∙◌, arith, length-append, inl, inr}
 use Rattle.nc_format.specs.declared.NcFile.{NcFile}
+use Rattle.nc_format.proofs.Answered.{failed}
 use Rattle.exodus_mesh.specs.declared.ids.NameFault.{NameFault}
-use Rattle.exodus_mesh.specs.declared.ids.NameFault.TheVariants.{Missing, Shape, Kind, NoMemory}
+use Rattle.exodus_mesh.specs.declared.ids.NameFault.TheVariants.{NoMemory}
 use Rattle.exodus_mesh.specs.declared.vars.BlockVar.{BlockVar}
-use Rattle.exodus_mesh.specs.Names.{◌>>=◌, Refuses}
+use Rattle.exodus_mesh.specs.Names.{◌>>=◌}
 use Rattle.exodus_mesh.specs.MeshNames.{block_in, blocks_in}
 
 behind : (file : NcFile) (n : ℕ) (blocks : List BlockVar) → blocks_in file n ≡ Ok blocks → blocks_in file (suc n) ≡ (block_in file (suc n) >>= λ block. Ok (blocks ++ block ∷ []))
@@ -31,11 +32,10 @@ faulty_from file n count blocks fault h below here =
     subst (λ m. blocks_in file m ≡ Err fault) same (stays_by file (suc n) (count - suc n) fault faulty)
 
 -- a fault of a block is the fault of all
-pub refused_from : (file : NcFile) (n count : ℕ) (blocks : List BlockVar) (fault : NameFault) → blocks_in file n ≡ Ok blocks → n < count → Refuses fault (block_in file (n + 1)) → Refuses fault (blocks_in file count)
-refused_from file n count blocks (Missing id) h below here = faulty_from file n count blocks (Missing id) h below here
-refused_from file n count blocks (Shape id) h below here = faulty_from file n count blocks (Shape id) h below here
-refused_from file n count blocks (Kind id) h below here = faulty_from file n count blocks (Kind id) h below here
-refused_from file n count blocks NoMemory h below here = tt
+pub refused_from : {X Z : Type 0} (file : NcFile) (n count : ℕ) (blocks : List BlockVar) (fault : NameFault) → blocks_in file n ≡ Ok blocks → n < count
+    → (failed {X = X} fault ≡ failed NoMemory) ⊎ (Err fault ≡ block_in file (n + 1)) → (failed {X = Z} fault ≡ failed NoMemory) ⊎ (Err fault ≡ blocks_in file count)
+refused_from file n count blocks fault h below (inl here) = inl cc
+refused_from file n count blocks fault h below (inr here) = inr (sym (faulty_from file n count blocks fault h below (sym here)))
 
 longer : (n : ℕ) (r : Result (List BlockVar) NameFault) (s : Result BlockVar NameFault) (blocks : List BlockVar) → ((before : List BlockVar) → r ≡ Ok before → length before ≡ n)
     → (r >>= λ before. s >>= λ block. Ok (before ++ block ∷ [])) ≡ Ok blocks → length blocks ≡ suc n

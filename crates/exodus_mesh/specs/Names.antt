@@ -1,9 +1,8 @@
 -- The names that files are searched for, and the faults of names.
-use Rattle.std.specs.Prelude.{◌≡◌, ℕ, List, ◌++◌, codes, decimal, Option, Some, None, Result, Ok, Err}
+use Rattle.std.specs.Prelude.{ℕ, List, ◌++◌, codes, decimal, Option, Some, None, Result, Ok, Err}
 use Rattle.exodus_mesh.specs.declared.ids.NameId.{NameId}
 use Rattle.exodus_mesh.specs.declared.ids.NameId.TheVariants.{Coord, CoordX, CoordY, CoordZ, NumElBlk, Connect, FacesA, FacesB, Pieces, Source, Target, RingSize, RingPlane, Corner, Col, Row, S, AreaA, AreaB, Var}
 use Rattle.exodus_mesh.specs.declared.ids.NameFault.{NameFault}
-use Rattle.exodus_mesh.specs.declared.ids.NameFault.TheVariants.{Missing, Shape, Kind, NoMemory}
 
 -- the bytes of the name that stands for this, where `--var` gave the name `var`
 unfoldable pub name_of : List ℕ → NameId → List ℕ
@@ -38,15 +37,3 @@ Err fault >>= next = Err fault
 abbrev pub found_or : {A : Type 0} → NameFault → Option A → Result A NameFault
 found_or fault None = Err fault
 found_or fault (Some x) = Ok x
-
--- a fault that was answered is what was to be answered, unless memory ran out
-abbrev pub Refuses : {Y : Type 0} → NameFault → Result Y NameFault → Type 0
-Refuses (Missing id) answer = answer ≡ Err (Missing id)
-Refuses (Shape id) answer = answer ≡ Err (Shape id)
-Refuses (Kind id) answer = answer ≡ Err (Kind id)
-Refuses NoMemory answer = Unit {0}
-
--- a result, seen by view, is what was to be answered, unless memory ran out
-abbrev pub Answers : {X Y : Type 0} → (X → Y) → Result X NameFault → Result Y NameFault → Type 0
-Answers view (Ok x) answer = answer ≡ Ok (view x)
-Answers view (Err fault) answer = Refuses fault answer

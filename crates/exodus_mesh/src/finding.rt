@@ -1,9 +1,11 @@
 // The variables of a mesh, looked up by their names.
 ghost use Rattle.std.specs.Prelude.{◌≡◌, ◌<◌, ◌^◌, length, IfOk, IfErr, Ok};
 ghost use Rattle.std.specs.List.{sum_by};
+ghost use Rattle.vec_exact.specs.Answers.{Answers};
+ghost use Rattle.nc_format.specs.Answers.{IsFaultOf};
 ghost use Rattle.nc_format.specs.Sound.{IsSound};
+ghost use Rattle.exodus_mesh.specs.declared.ids.NameFault.TheVariants.{NoMemory};
 ghost use Rattle.exodus_mesh.specs.Places.{ArePlaces};
-ghost use Rattle.exodus_mesh.specs.Names.{Answers, Refuses};
 ghost use Rattle.exodus_mesh.specs.MeshNames.{coord_in, whole_nodes, split_nodes, nodes_in, block_count_in, block_in, blocks_in, mesh_vars_in};
 ghost use Rattle.exodus_mesh.specs.declared.vars.BlockVar.{BlockVar};
 
@@ -86,7 +88,7 @@ fn find_block(
     number: u32,
 ) -> Result<BlockVar, NameFault>
     requires { ArePlaces file.now.vars places.now }
-    ensures { Answers (λ block. block) result (block_in file.now number) }
+    ensures { Answers NoMemory (λ block. block) result (block_in file.now number) }
 {
     let id = NameId::Connect(number);
     let name = format!(in alloc; "connect{number}")?;
@@ -100,7 +102,7 @@ fn find_block(
 #[tactic(auto, using(crate::proofs::Blocks::next_block))]
 fn find_blocks(alloc: Global, file: &NcFile, count: u32) -> Result<Vec<BlockVar>, NameFault>
     requires { IsSound file.now }
-    ensures { Answers (λ blocks. blocks.items) result (blocks_in file.now count) }
+    ensures { Answers NoMemory (λ blocks. blocks.items) result (blocks_in file.now count) }
 {
     let places = places(alloc, &file.vars.items)?;
     let mut blocks = Vec::new(alloc);
@@ -135,7 +137,7 @@ pub fn find_mesh(alloc: Global, file: &NcFile) -> Result<MeshVars, NameFault>
     requires sound { IsSound file.now }
     ensures vars { IfOk result (λ vars. mesh_vars_in file.now ≡ Ok vars) }
     // A fault that is answered is the first one, unless memory ran out.
-    ensures fault { IfErr result (λ fault. Refuses fault (mesh_vars_in file.now)) }
+    ensures fault { IfErr result (IsFaultOf NoMemory (mesh_vars_in file.now)) }
 {
     let coord = find_coord(file)?;
     let nodes = nodes_of(file, coord)?;

@@ -1,5 +1,5 @@
 -- The field in a file, by its header and all of its bytes, for a map with n_a sources, or the first fault. Our own.
-use Rattle.std.specs.Prelude.{◌≡◌, ℕ, List, Result, Ok, Err}
+use Rattle.std.specs.Prelude.{ℕ, List, Result, Ok, Err}
 use Rattle.nc_format.specs.declared.NcFile.{NcFile}
 use Rattle.exodus_mesh.specs.declared.ids.NameFault.{NameFault}
 use Rattle.exodus_mesh.specs.MeshIn.{values_in}
@@ -7,7 +7,7 @@ use Rattle.field_files.specs.declared.FieldVar.{FieldVar}
 use Rattle.field_files.specs.declared.NoFit.{NoFit}
 use Rattle.field_files.specs.declared.FieldData.{FieldData}
 use Rattle.field_files.specs.declared.FieldFault.{FieldFault}
-use Rattle.field_files.specs.declared.FieldFault.TheVariants.{Name, Length, NoMemory}
+use Rattle.field_files.specs.declared.FieldFault.TheVariants.{Name, Length}
 use Rattle.field_files.specs.FieldNames.{field_var}
 use Rattle.field_files.specs.FieldShapes.{field_over}
 use Rattle.field_files.specs.FillValues.{fill_at}
@@ -28,9 +28,3 @@ if_named file bytes n_a (Err fault) = Err (Name fault)
 -- The faults of names come before that of the length.
 unfoldable pub field_in : NcFile → List ℕ → List ℕ → ℕ → Result FieldData FieldFault
 field_in file bytes name n_a = if_named file bytes n_a (field_var file name)
-
--- a fault that was answered is what was to be answered, unless memory ran out
-abbrev pub Refuses : {Y : Type 0} → FieldFault → Result Y FieldFault → Type 0
-Refuses (Name fault) answer = answer ≡ Err (Name fault)
-Refuses (Length len) answer = answer ≡ Err (Length len)
-Refuses NoMemory answer = Unit {0}

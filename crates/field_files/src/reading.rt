@@ -1,9 +1,11 @@
 // The field of a whole file.
 ghost use Rattle.std.specs.Prelude.{◌≡◌, ◌≤◌, ◌*◌, length, IfOk, IfErr, Ok};
+ghost use Rattle.nc_format.specs.Answers.{IsFaultOf};
 ghost use Rattle.nc_format.specs.Header.{IsHeader};
 ghost use Rattle.exodus_mesh.specs.MeshIn.{values_in};
 ghost use Rattle.field_files.specs.FieldNames.{IsFieldPlace};
-ghost use Rattle.field_files.specs.FieldIn.{field_in, Refuses};
+ghost use Rattle.field_files.specs.declared.FieldFault.TheVariants as faults;
+ghost use Rattle.field_files.specs.FieldIn.{field_in};
 
 use crate::finding::var_at;
 use crate::{FieldData, FieldFault, fill_value, find_field, fit_field};
@@ -45,7 +47,7 @@ pub fn read_field(
     ensures field { IfOk result (λ found. field_in file.now bytes.now name.now n_a ≡ Ok found) }
     // A fault that is answered is the first one, unless memory ran out.
     ensures fault { IfErr result
-        (λ fault. Refuses fault (field_in file.now bytes.now name.now n_a)) }
+        (IsFaultOf faults.NoMemory (field_in file.now bytes.now name.now n_a)) }
     // There is a value for each source of each slice.
     ensures values { IfOk result (λ found. length found.values ≡ found.field.slices * n_a) }
 {

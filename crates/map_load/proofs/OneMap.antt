@@ -1,18 +1,18 @@
 -- A header and bytes hold one map or have one fault, and what refusals say of a file.
-use Rattle.std.proofs.Common.{◌≡◌, ◌+◌, ℕ, List, length, Option, Some, Result, Ok, Err, sym, ap, ◌∙◌}
+use Rattle.std.proofs.Common.{◌≡◌, ◌+◌, ℕ, List, length, Option, Some, Result, Ok, Err, sym, ap, ◌∙◌, inl, inr}
 use Rattle.std.specs.Prelude.{IfOk}
 use Rattle.map_rows.specs.Maps.{MapParts}
 use Rattle.remap_io.specs.Folder.{Folder, file_at, OnFile}
 use Rattle.remap_io.specs.Outside.{FilesSeen}
 use Rattle.nc_format.specs.declared.NcFile.{NcFile}
 use Rattle.nc_format.specs.Header.{IsHeader}
+use Rattle.nc_format.specs.Answers.{IsFaultOf}
 use Rattle.exodus_mesh.specs.declared.ids.NameFault.{NameFault}
 use Rattle.exodus_mesh.specs.declared.ids.NameFault.TheVariants as of_names
-use Rattle.exodus_mesh.specs.Names as names
 use Rattle.remap_files.specs.declared.faults.FileFault.{FileFault}
 use Rattle.remap_files.specs.declared.faults.FileFault.TheVariants.{Name, Row, AreaA, AreaB, NoMemory}
 use Rattle.remap_files.specs.declared.vars.MapVars.{MapVars}
-use Rattle.remap_files.specs.Answers.{Refuses, IsOfRowsOrAreas}
+use Rattle.remap_files.specs.Answers.{IsOfRowsOrAreas}
 use Rattle.remap_files.specs.MapNames.{map_vars_in}
 use Rattle.remap_files.specs.MapIn.{if_map_named, map_in}
 use Rattle.remap_files.proofs.ReadMaps.{map_in_is}
@@ -56,17 +56,23 @@ needed_is file vars found = ap (named_bytes file) found
 
 -- Faults of names and of rows.
 
-pub names_refusal : (file : NcFile) (e : NameFault) → names.Refuses e (map_vars_in file) → IsOwn (HasHeadFault file) (refusal_of_names e)
-names_refusal file (of_names.Missing id) h = (λ k. absurd cc, h)
-names_refusal file (of_names.Shape id) h = (λ k. absurd cc, h)
-names_refusal file (of_names.Kind id) h = (λ k. absurd cc, h)
+pub names_refusal : (file : NcFile) (e : NameFault) → IsFaultOf of_names.NoMemory (map_vars_in file) e → IsOwn (HasHeadFault file) (refusal_of_names e)
 names_refusal file of_names.NoMemory h = tt
+names_refusal file (of_names.Missing id) (inl h) = absurd cc
+names_refusal file (of_names.Missing id) (inr h) = (λ k. absurd cc, h)
+names_refusal file (of_names.Shape id) (inl h) = absurd cc
+names_refusal file (of_names.Shape id) (inr h) = (λ k. absurd cc, h)
+names_refusal file (of_names.Kind id) (inl h) = absurd cc
+names_refusal file (of_names.Kind id) (inr h) = (λ k. absurd cc, h)
 
-pub rows_refusal : (vars : MapVars) (n : MapNumbers) (e : FileFault) → Refuses e (map_of_numbers vars n) → IsOfRowsOrAreas e → IsOwn (HasRowFault vars n) (refusal_of_rows e)
+pub rows_refusal : (vars : MapVars) (n : MapNumbers) (e : FileFault) → IsFaultOf NoMemory (map_of_numbers vars n) e → IsOfRowsOrAreas e → IsOwn (HasRowFault vars n) (refusal_of_rows e)
 rows_refusal vars n (Name fault) h own = absurd own
-rows_refusal vars n (Row r) h own = (tt, h)
-rows_refusal vars n (AreaA i) h own = (tt, h)
-rows_refusal vars n (AreaB j) h own = (tt, h)
+rows_refusal vars n (Row r) (inl h) own = absurd cc
+rows_refusal vars n (Row r) (inr h) own = (tt, h)
+rows_refusal vars n (AreaA i) (inl h) own = absurd cc
+rows_refusal vars n (AreaA i) (inr h) own = (tt, h)
+rows_refusal vars n (AreaB j) (inl h) own = absurd cc
+rows_refusal vars n (AreaB j) (inr h) own = (tt, h)
 rows_refusal vars n NoMemory h own = tt
 
 -- What they say of the file.

@@ -12,10 +12,10 @@ use Rattle.mesh_check.specs.declared.faults.MeshFault.TheVariants as of_mesh
 use Rattle.mesh_check.specs.Mesh.{IsAcceptedMesh}
 use Rattle.mesh_check.specs.FirstFault.{IsFirstMeshFault}
 use Rattle.mesh_check.proofs.FirstFaults.{same_first_fault, no_first_fault}
+use Rattle.nc_format.specs.Answers.{IsFaultOf}
 use Rattle.exodus_mesh.specs.declared.ids.NameFault.{NameFault}
 use Rattle.exodus_mesh.specs.declared.ids.NameFault.TheVariants as of_names
 use Rattle.exodus_mesh.specs.declared.vars.MeshVars.{MeshVars}
-use Rattle.exodus_mesh.specs.Names as names
 use Rattle.exodus_mesh.specs.MeshNames.{mesh_vars_in}
 use Rattle.exodus_mesh.specs.MeshIn as mesh
 use Rattle.exodus_mesh.specs.MeshIn.{MeshInFault, mesh_in, mesh_at, mesh_count_fault, if_named, if_counted}
@@ -84,11 +84,14 @@ needed_is file vars found = ap (named_bytes file) found
 
 -- Faults of names, of counts and of meshes.
 
-pub names_refusal : (file : NcFile) (e : NameFault) → names.Refuses e (mesh_vars_in file) → IsOwn (HasHeadFault file) (refusal_of_names e)
-names_refusal file (of_names.Missing id) h = (λ k. absurd cc, h)
-names_refusal file (of_names.Shape id) h = (λ k. absurd cc, h)
-names_refusal file (of_names.Kind id) h = (λ k. absurd cc, h)
+pub names_refusal : (file : NcFile) (e : NameFault) → IsFaultOf of_names.NoMemory (mesh_vars_in file) e → IsOwn (HasHeadFault file) (refusal_of_names e)
 names_refusal file of_names.NoMemory h = tt
+names_refusal file (of_names.Missing id) (inl h) = absurd cc
+names_refusal file (of_names.Missing id) (inr h) = (λ k. absurd cc, h)
+names_refusal file (of_names.Shape id) (inl h) = absurd cc
+names_refusal file (of_names.Shape id) (inr h) = (λ k. absurd cc, h)
+names_refusal file (of_names.Kind id) (inl h) = absurd cc
+names_refusal file (of_names.Kind id) (inr h) = (λ k. absurd cc, h)
 
 own_mesh : (Q : MeshFileFault → Type 0) (e : MeshFault) → ((e ≢ of_mesh.NoMemory) → Q (Mesh e)) → IsOwn Q (refusal_of_mesh e)
 own_mesh Q (of_mesh.TooManyNodes n) h = (λ k. absurd cc, h (λ k. absurd cc))

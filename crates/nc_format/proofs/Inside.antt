@@ -8,7 +8,6 @@ use Rattle.std.proofs.lemmas.List.Elements.{All-from_recursion}
 use Rattle.std.proofs.lemmas.List.Sums.{sum_by-cons}
 use Rattle.nc_write.specs.declared.NcDoc.{NcDoc}
 use Rattle.nc_write.specs.declared.DocVar.{DocVar}
-use Rattle.nc_write.specs.Kinds.{size_of}
 use Rattle.nc_write.specs.Extents.{pad_len, share_of, has_several}
 use Rattle.nc_write.specs.File.{kind_of, is_record, pads_records, fixed_len, record_len, first_len, fixed_total, begin_of, header, header_len, data_of, file_of, doc_piece_len, doc_step}
 use Rattle.nc_write.specs.Form.{IsWellFormed}

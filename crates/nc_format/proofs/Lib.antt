@@ -1,3 +1,4 @@
+pub mod Answered
 pub mod Loop
 pub mod Stops
 pub mod Outside

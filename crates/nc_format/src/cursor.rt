@@ -1,7 +1,8 @@
 // Fields, read one behind another.
 ghost use Rattle.std.specs.Prelude.{◌≡◌, ◌==◌, ◌≤◌, ◌<◌, ◌^◌, ℕ, length, IfOk};
 ghost use Rattle.nc_write.specs.Widths.{width, begin_width};
-ghost use Rattle.nc_format.specs.Answers.{Answers};
+ghost use Rattle.vec_exact.specs.Answers.{Answers};
+ghost use Rattle.nc_format.specs.declared.fault.NcFault.TheVariants.{NoMemory};
 ghost use Rattle.nc_format.specs.Parts.{field, number, padded};
 ghost use Rattle.nc_format.specs.Grammar.{bounded, name, tag, count, nc_type, numrecs, all_ff};
 
@@ -27,7 +28,7 @@ pub struct Cursor<'a> {
 impl<'a> Cursor<'a> {
     #[tactic(auto, unfolding(crate::specs::Parts::field))]
     pub fn field(&mut self, len: u64) -> Result<&'a [u8], NcFault>
-        ensures read { Answers (λ f. (f.now, self.new.at)) result
+        ensures read { Answers NoMemory (λ f. (f.now, self.new.at)) result
             ((field len).read self.old.bytes.now self.old.at) }
         ensures bytes { self.new.bytes ≡ self.old.bytes }
         ensures version { self.new.version ≡ self.old.version }
@@ -46,7 +47,7 @@ impl<'a> Cursor<'a> {
 
     #[tactic(auto, unfolding(crate::specs::Parts::number))]
     pub fn number4(&mut self) -> Result<u32, NcFault>
-        ensures read { Answers (λ n. (n, self.new.at)) result
+        ensures read { Answers NoMemory (λ n. (n, self.new.at)) result
             ((number 4).read self.old.bytes.now self.old.at) }
         ensures bytes { self.new.bytes ≡ self.old.bytes }
         ensures version { self.new.version ≡ self.old.version }
@@ -57,7 +58,7 @@ impl<'a> Cursor<'a> {
 
     #[tactic(auto, unfolding(crate::specs::Parts::number))]
     pub fn number8(&mut self) -> Result<u64, NcFault>
-        ensures read { Answers (λ n. (n, self.new.at)) result
+        ensures read { Answers NoMemory (λ n. (n, self.new.at)) result
             ((number 8).read self.old.bytes.now self.old.at) }
         ensures bytes { self.new.bytes ≡ self.old.bytes }
         ensures version { self.new.version ≡ self.old.version }
@@ -69,7 +70,7 @@ impl<'a> Cursor<'a> {
     /// A number of records, a count, a length, the number of a dimension, or a vsize.
     #[tactic(auto, unfolding(nc_write::specs::Widths::width))]
     pub fn wide(&mut self) -> Result<u64, NcFault>
-        ensures read { Answers (λ n. (n, self.new.at)) result
+        ensures read { Answers NoMemory (λ n. (n, self.new.at)) result
             ((number (width self.old.version)).read self.old.bytes.now self.old.at) }
         ensures bytes { self.new.bytes ≡ self.old.bytes }
         ensures version { self.new.version ≡ self.old.version }
@@ -83,7 +84,7 @@ impl<'a> Cursor<'a> {
 
     #[tactic(auto, unfolding(nc_write::specs::Widths::begin_width))]
     pub fn begin(&mut self) -> Result<u64, NcFault>
-        ensures read { Answers (λ n. (n, self.new.at)) result
+        ensures read { Answers NoMemory (λ n. (n, self.new.at)) result
             ((number (begin_width self.old.version)).read self.old.bytes.now self.old.at) }
         ensures bytes { self.new.bytes ≡ self.old.bytes }
         ensures version { self.new.version ≡ self.old.version }
@@ -97,7 +98,7 @@ impl<'a> Cursor<'a> {
 
     #[tactic(auto, unfolding(crate::specs::Grammar::bounded))]
     pub fn bounded(&mut self) -> Result<u32, NcFault>
-        ensures read { Answers (λ n. (n, self.new.at)) result
+        ensures read { Answers NoMemory (λ n. (n, self.new.at)) result
             ((bounded self.old.version).read self.old.bytes.now self.old.at) }
         ensures bytes { self.new.bytes ≡ self.old.bytes }
         ensures version { self.new.version ≡ self.old.version }
@@ -113,7 +114,7 @@ impl<'a> Cursor<'a> {
     #[tactic(auto, unfolding(crate::specs::Parts::padded))]
     pub fn padded(&mut self, len: u64) -> Result<&'a [u8], NcFault>
         requires { len < 2 ^ 40 }
-        ensures read { Answers (λ f. (f.now, self.new.at)) result
+        ensures read { Answers NoMemory (λ f. (f.now, self.new.at)) result
             ((padded len).read self.old.bytes.now self.old.at) }
         ensures bytes { self.new.bytes ≡ self.old.bytes }
         ensures version { self.new.version ≡ self.old.version }
@@ -125,7 +126,7 @@ impl<'a> Cursor<'a> {
 
     #[tactic(auto, unfolding(crate::specs::Grammar::name))]
     pub fn name(&mut self, alloc: Global) -> Result<Name, NcFault>
-        ensures read { Answers (λ x. (x, self.new.at)) result
+        ensures read { Answers NoMemory (λ x. (x, self.new.at)) result
             ((name self.old.version).read self.old.bytes.now self.old.at) }
         ensures bytes { self.new.bytes ≡ self.old.bytes }
         ensures version { self.new.version ≡ self.old.version }
@@ -140,7 +141,7 @@ impl<'a> Cursor<'a> {
     /// The tag of a list, its own or 0.
     #[tactic(auto, unfolding(crate::specs::Grammar::tag))]
     pub fn tag(&mut self, own: u32) -> Result<u32, NcFault>
-        ensures read { Answers (λ t. (t, self.new.at)) result
+        ensures read { Answers NoMemory (λ t. (t, self.new.at)) result
             ((tag own).read self.old.bytes.now self.old.at) }
         ensures bytes { self.new.bytes ≡ self.old.bytes }
         ensures version { self.new.version ≡ self.old.version }
@@ -156,7 +157,7 @@ impl<'a> Cursor<'a> {
     /// The count behind a tag.
     #[tactic(auto, unfolding(crate::specs::Grammar::count))]
     pub fn count(&mut self, own: u32, tag: u32) -> Result<u32, NcFault>
-        ensures read { Answers (λ n. (n, self.new.at)) result
+        ensures read { Answers NoMemory (λ n. (n, self.new.at)) result
             ((count self.old.version own tag).read self.old.bytes.now self.old.at) }
         ensures bytes { self.new.bytes ≡ self.old.bytes }
         ensures version { self.new.version ≡ self.old.version }
@@ -171,7 +172,7 @@ impl<'a> Cursor<'a> {
 
     #[tactic(auto, unfolding(crate::specs::Grammar::nc_type))]
     pub fn kind(&mut self) -> Result<NcKind, NcFault>
-        ensures read { Answers (λ k. (k, self.new.at)) result
+        ensures read { Answers NoMemory (λ k. (k, self.new.at)) result
             ((nc_type self.old.version).read self.old.bytes.now self.old.at) }
         ensures bytes { self.new.bytes ≡ self.old.bytes }
         ensures version { self.new.version ≡ self.old.version }
@@ -187,7 +188,7 @@ impl<'a> Cursor<'a> {
 
     #[tactic(auto, unfolding(crate::specs::Grammar::numrecs))]
     pub fn records(&mut self) -> Result<u32, NcFault>
-        ensures read { Answers (λ n. (n, self.new.at)) result
+        ensures read { Answers NoMemory (λ n. (n, self.new.at)) result
             ((numrecs self.old.version).read self.old.bytes.now self.old.at) }
         ensures bytes { self.new.bytes ≡ self.old.bytes }
         ensures version { self.new.version ≡ self.old.version }

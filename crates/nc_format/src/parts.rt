@@ -1,7 +1,8 @@
 // Dimensions, attributes and variables, one behind another. Lists grow as items are read, so that a
 // count takes no memory by itself.
 ghost use Rattle.std.specs.Prelude.{◌≡◌, ◌<◌, ◌^◌, ℕ, [], length, IfOk};
-ghost use Rattle.nc_format.specs.Answers.{Answers};
+ghost use Rattle.vec_exact.specs.Answers.{Answers};
+ghost use Rattle.nc_format.specs.declared.fault.NcFault.TheVariants.{NoMemory};
 ghost use Rattle.nc_format.specs.Parts.{items};
 ghost use Rattle.nc_format.specs.Grammar.{dim, next_dim, dim_list, att, att_list, dim_id, next_id, dim_ids, var, var_list, body};
 
@@ -15,7 +16,7 @@ use std::alloc::Global;
 impl<'a> Cursor<'a> {
     #[tactic(auto, unfolding(crate::specs::Grammar::dim))]
     fn dim(&mut self, alloc: Global, seen: bool) -> Result<NcDim, NcFault>
-        ensures read { Answers (λ x. (x, self.new.at)) result
+        ensures read { Answers NoMemory (λ x. (x, self.new.at)) result
             ((dim self.old.version seen).read self.old.bytes.now self.old.at) }
         ensures bytes { self.new.bytes ≡ self.old.bytes }
         ensures version { self.new.version ≡ self.old.version }
@@ -31,7 +32,7 @@ impl<'a> Cursor<'a> {
 
     #[tactic(auto, unfolding(crate::specs::Grammar::att))]
     fn att(&mut self, alloc: Global) -> Result<NcAtt, NcFault>
-        ensures read { Answers (λ x. (x, self.new.at)) result
+        ensures read { Answers NoMemory (λ x. (x, self.new.at)) result
             ((att self.old.version).read self.old.bytes.now self.old.at) }
         ensures bytes { self.new.bytes ≡ self.old.bytes }
         ensures version { self.new.version ≡ self.old.version }
@@ -53,7 +54,7 @@ impl<'a> Cursor<'a> {
 
     fn some_dims(&mut self, alloc: Global, count: u32) -> Result<NcDims, NcFault>
         ensures few { IfOk result (λ x. length x < 2 ^ 32) }
-        ensures read { Answers (λ x. (x, self.new.at)) result
+        ensures read { Answers NoMemory (λ x. (x, self.new.at)) result
             ((items (next_dim self.old.version) count []).read self.old.bytes.now self.old.at) }
         ensures bytes { self.new.bytes ≡ self.old.bytes }
         ensures version { self.new.version ≡ self.old.version }
@@ -69,7 +70,7 @@ impl<'a> Cursor<'a> {
     }
 
     fn some_atts(&mut self, alloc: Global, count: u32) -> Result<NcAtts, NcFault>
-        ensures read { Answers (λ x. (x, self.new.at)) result
+        ensures read { Answers NoMemory (λ x. (x, self.new.at)) result
             ((items (λ _. att self.old.version) count []).read self.old.bytes.now self.old.at) }
         ensures bytes { self.new.bytes ≡ self.old.bytes }
         ensures version { self.new.version ≡ self.old.version }
@@ -85,7 +86,7 @@ impl<'a> Cursor<'a> {
     #[tactic(auto, unfolding(crate::specs::Grammar::dim_list, crate::specs::Grammar::listed))]
     pub fn dims(&mut self, alloc: Global) -> Result<NcDims, NcFault>
         ensures few { IfOk result (λ x. length x < 2 ^ 32) }
-        ensures read { Answers (λ x. (x, self.new.at)) result
+        ensures read { Answers NoMemory (λ x. (x, self.new.at)) result
             ((dim_list self.old.version).read self.old.bytes.now self.old.at) }
         ensures bytes { self.new.bytes ≡ self.old.bytes }
         ensures version { self.new.version ≡ self.old.version }
@@ -97,7 +98,7 @@ impl<'a> Cursor<'a> {
 
     #[tactic(auto, unfolding(crate::specs::Grammar::att_list, crate::specs::Grammar::listed))]
     pub fn atts(&mut self, alloc: Global) -> Result<NcAtts, NcFault>
-        ensures read { Answers (λ x. (x, self.new.at)) result
+        ensures read { Answers NoMemory (λ x. (x, self.new.at)) result
             ((att_list self.old.version).read self.old.bytes.now self.old.at) }
         ensures bytes { self.new.bytes ≡ self.old.bytes }
         ensures version { self.new.version ≡ self.old.version }
@@ -110,7 +111,7 @@ impl<'a> Cursor<'a> {
     #[tactic(auto, using(nc_write::proofs::Lens::len_here), unfolding(crate::specs::Grammar::dim_id))]
     pub fn id(&mut self, dims: &[NcDim], is_first: bool) -> Result<u32, NcFault>
         requires { length dims.now < 2 ^ 32 }
-        ensures read { Answers (λ x. (x, self.new.at)) result
+        ensures read { Answers NoMemory (λ x. (x, self.new.at)) result
             ((dim_id self.old.version dims.now is_first).read self.old.bytes.now self.old.at) }
         ensures bytes { self.new.bytes ≡ self.old.bytes }
         ensures version { self.new.version ≡ self.old.version }
@@ -129,8 +130,9 @@ impl<'a> Cursor<'a> {
 
     pub fn some_ids(&mut self, alloc: Global, dims: &[NcDim], count: u32) -> Result<DimIds, NcFault>
         requires { length dims.now < 2 ^ 32 }
-        ensures read { Answers (λ x. (x, self.new.at)) result
-            ((items (next_id self.old.version dims.now) count []).read self.old.bytes.now self.old.at) }
+        ensures read { Answers NoMemory (λ x. (x, self.new.at)) result
+            ((items (next_id self.old.version dims.now) count []).read
+            self.old.bytes.now self.old.at) }
         ensures bytes { self.new.bytes ≡ self.old.bytes }
         ensures version { self.new.version ≡ self.old.version }
     {
@@ -145,7 +147,7 @@ impl<'a> Cursor<'a> {
     #[tactic(auto, unfolding(crate::specs::Grammar::dim_ids))]
     pub fn ids(&mut self, alloc: Global, dims: &[NcDim]) -> Result<DimIds, NcFault>
         requires { length dims.now < 2 ^ 32 }
-        ensures read { Answers (λ x. (x, self.new.at)) result
+        ensures read { Answers NoMemory (λ x. (x, self.new.at)) result
             ((dim_ids self.old.version dims.now).read self.old.bytes.now self.old.at) }
         ensures bytes { self.new.bytes ≡ self.old.bytes }
         ensures version { self.new.version ≡ self.old.version }
@@ -157,7 +159,7 @@ impl<'a> Cursor<'a> {
     #[tactic(auto, unfolding(crate::specs::Grammar::var))]
     pub fn var(&mut self, alloc: Global, dims: &[NcDim]) -> Result<NcVar, NcFault>
         requires { length dims.now < 2 ^ 32 }
-        ensures read { Answers (λ x. (x, self.new.at)) result
+        ensures read { Answers NoMemory (λ x. (x, self.new.at)) result
             ((var self.old.version dims.now).read self.old.bytes.now self.old.at) }
         ensures bytes { self.new.bytes ≡ self.old.bytes }
         ensures version { self.new.version ≡ self.old.version }
@@ -188,8 +190,9 @@ impl<'a> Cursor<'a> {
     ) -> Result<NcVars, NcFault>
         requires { length dims.now < 2 ^ 32 }
         ensures few { IfOk result (λ x. length x < 2 ^ 32) }
-        ensures read { Answers (λ x. (x, self.new.at)) result
-            ((items (λ _. var self.old.version dims.now) count []).read self.old.bytes.now self.old.at) }
+        ensures read { Answers NoMemory (λ x. (x, self.new.at)) result
+            ((items (λ _. var self.old.version dims.now) count []).read
+            self.old.bytes.now self.old.at) }
         ensures bytes { self.new.bytes ≡ self.old.bytes }
         ensures version { self.new.version ≡ self.old.version }
     {
@@ -205,7 +208,7 @@ impl<'a> Cursor<'a> {
     pub fn vars(&mut self, alloc: Global, dims: &[NcDim]) -> Result<NcVars, NcFault>
         requires { length dims.now < 2 ^ 32 }
         ensures few { IfOk result (λ x. length x < 2 ^ 32) }
-        ensures read { Answers (λ x. (x, self.new.at)) result
+        ensures read { Answers NoMemory (λ x. (x, self.new.at)) result
             ((var_list self.old.version dims.now).read self.old.bytes.now self.old.at) }
         ensures bytes { self.new.bytes ≡ self.old.bytes }
         ensures version { self.new.version ≡ self.old.version }
@@ -218,7 +221,7 @@ impl<'a> Cursor<'a> {
     #[tactic(auto, unfolding(crate::specs::Grammar::body))]
     pub fn body(&mut self, alloc: Global) -> Result<NcFile, NcFault>
         ensures few { IfOk result (λ x. length x.vars < 2 ^ 32) }
-        ensures read { Answers (λ x. (x, self.new.at)) result
+        ensures read { Answers NoMemory (λ x. (x, self.new.at)) result
             ((body self.old.version).read self.old.bytes.now self.old.at) }
     {
         let records = self.records()?;

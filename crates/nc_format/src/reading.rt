@@ -2,7 +2,8 @@
 ghost use Rattle.std.specs.Prelude.{◌≡◌, ◌≤◌, ◌<◌, ◌*◌, ◌^◌, length, All, IfOk, IfErr, Ok, Err, Some};
 ghost use Rattle.nc_format.specs.declared.NcFile.{NcFile};
 ghost use Rattle.nc_format.specs.declared.fault.NcFault.{NcFault};
-ghost use Rattle.nc_format.specs.Answers.{Answers, IsTold};
+ghost use Rattle.nc_format.specs.declared.fault.NcFault.TheVariants.{NoMemory};
+ghost use Rattle.vec_exact.specs.Answers.{Answers, IsFirstFault};
 ghost use Rattle.nc_format.specs.Sound.{IsSound, item_count};
 ghost use Rattle.nc_format.specs.Placing.{IsPlaced};
 ghost use Rattle.nc_format.specs.Numbers.{HasWholePieces};
@@ -15,7 +16,7 @@ use std::alloc::Global;
 
 #[tactic(auto, unfolding(crate::specs::Header::header_read, crate::specs::Header::magic_read))]
 fn fields(alloc: Global, bytes: &[u8]) -> Result<NcFile, NcFault>
-    ensures read { Answers (λ f. f) result (fields_in (header_read bytes.now)) }
+    ensures read { Answers NoMemory (λ f. f) result (fields_in (header_read bytes.now)) }
     ensures few { IfOk result (λ f. length f.vars < 2 ^ 32) }
 {
     if bytes.len() < 4 || bytes[0] != 0x43 || bytes[1] != 0x44 || bytes[2] != 0x46 {
@@ -37,7 +38,8 @@ fn fields(alloc: Global, bytes: &[u8]) -> Result<NcFile, NcFault>
 fn finished(file: NcFile, len: u64) -> Result<NcFile, NcFault>
     requires few { length file.vars < 2 ^ 32 }
     requires len { len < 2 ^ 63 }
-    ensures { Answers (λ x. x) result (finished len file) }
+    ensures value { IfOk result (λ f. finished len file ≡ Ok f) }
+    ensures fault { IfErr result (λ fault. finished len file ≡ Err fault) }
 {
     let mut file = file;
     match place_all(&file.dims.items, file.records, len, &mut file.vars.items) {
@@ -49,7 +51,7 @@ fn finished(file: NcFile, len: u64) -> Result<NcFile, NcFault>
 #[tactic(auto, unfolding(crate::specs::Header::header_in))]
 fn header(alloc: Global, bytes: &[u8], file_len: u64) -> Result<NcFile, NcFault>
     requires { file_len ≤ 2147483647 }
-    ensures { Answers (λ f. f) result (header_in bytes.now file_len) }
+    ensures { Answers NoMemory (λ f. f) result (header_in bytes.now file_len) }
 {
     let file = fields(alloc, bytes)?;
     finished(file, file_len)
@@ -67,12 +69,13 @@ pub fn read_header(alloc: Global, bytes: &[u8], file_len: u64) -> Result<NcFile,
     // What is answered is the header that the bytes begin with.
     ensures header { IfOk result (λ f. IsHeader bytes.now file_len f) }
     // Such a header is answered, unless memory runs out.
-    ensures only { (f : NcFile) → IsHeader bytes.now file_len f → Answers (λ g. g) result (Ok f) }
+    ensures only { (f : NcFile) → IsHeader bytes.now file_len f
+        → Answers NoMemory (λ g. g) result (Ok f) }
     // A fault that is answered is the first one, unless memory ran out.
-    ensures fault { IfErr result (IsTold (first_fault bytes.now file_len)) }
+    ensures fault { IfErr result (IsFirstFault NoMemory (first_fault bytes.now file_len)) }
     // A first fault is answered, unless memory runs out.
     ensures refused { (e : NcFault) → first_fault bytes.now file_len ≡ Some e
-        → Answers (λ g. g) result (Err e) }
+        → Answers NoMemory (λ g. g) result (Err e) }
     ensures sound { IfOk result IsSound }
     // What is kept is at most a quarter of the bytes, by number.
     ensures few { IfOk result (λ f. 4 * item_count f ≤ length bytes.now) }

@@ -1,18 +1,18 @@
 -- A header and bytes hold one overlap or have one fault, and what refusals say of a file.
-use Rattle.std.proofs.Common.{◌≡◌, ◌+◌, ℕ, ℤ, List, length, Option, Some, Result, Ok, Err, sym, ap, ◌∙◌}
+use Rattle.std.proofs.Common.{◌≡◌, ◌+◌, ℕ, ℤ, List, length, Option, Some, Result, Ok, Err, sym, ap, ◌∙◌, inl, inr}
 use Rattle.std.specs.Prelude.{IfOk}
 use Rattle.clip.specs.Overlaps.{OverlapParts}
 use Rattle.remap_io.specs.Folder.{Folder, file_at, OnFile}
 use Rattle.remap_io.specs.Outside.{FilesSeen}
 use Rattle.nc_format.specs.declared.NcFile.{NcFile}
 use Rattle.nc_format.specs.Header.{IsHeader}
+use Rattle.nc_format.specs.Answers.{IsFaultOf}
 use Rattle.exodus_mesh.specs.declared.ids.NameFault.{NameFault}
 use Rattle.exodus_mesh.specs.declared.ids.NameFault.TheVariants as of_names
-use Rattle.exodus_mesh.specs.Names as names
 use Rattle.remap_files.specs.declared.faults.FileFault.{FileFault}
 use Rattle.remap_files.specs.declared.faults.FileFault.TheVariants.{Name, Row, AreaA, AreaB, NoMemory}
 use Rattle.remap_files.specs.declared.vars.OverlapVars.{OverlapVars}
-use Rattle.remap_files.specs.Answers.{Refuses, IsOfRows}
+use Rattle.remap_files.specs.Answers.{IsOfRows}
 use Rattle.remap_files.specs.OverlapNames.{overlap_vars_in}
 use Rattle.remap_files.specs.OverlapRows.{overlap_of}
 use Rattle.remap_files.specs.OverlapIn.{lists_in, if_named, overlap_in}
@@ -55,15 +55,19 @@ needed_is file vars found = ap (named_bytes file) found
 
 -- Faults of names and of rows.
 
-pub names_refusal : (file : NcFile) (e : NameFault) → names.Refuses e (overlap_vars_in file) → IsOwn (HasHeadFault file) (refusal_of_names e)
-names_refusal file (of_names.Missing id) h = (λ k. absurd cc, h)
-names_refusal file (of_names.Shape id) h = (λ k. absurd cc, h)
-names_refusal file (of_names.Kind id) h = (λ k. absurd cc, h)
+pub names_refusal : (file : NcFile) (e : NameFault) → IsFaultOf of_names.NoMemory (overlap_vars_in file) e → IsOwn (HasHeadFault file) (refusal_of_names e)
 names_refusal file of_names.NoMemory h = tt
+names_refusal file (of_names.Missing id) (inl h) = absurd cc
+names_refusal file (of_names.Missing id) (inr h) = (λ k. absurd cc, h)
+names_refusal file (of_names.Shape id) (inl h) = absurd cc
+names_refusal file (of_names.Shape id) (inr h) = (λ k. absurd cc, h)
+names_refusal file (of_names.Kind id) (inl h) = absurd cc
+names_refusal file (of_names.Kind id) (inr h) = (λ k. absurd cc, h)
 
-pub rows_refusal : (vars : OverlapVars) (values : List (List ℤ)) (e : FileFault) → Refuses e (overlap_of vars values) → IsOfRows e → IsOwn (HasRowFault vars values) (refusal_of_rows e)
+pub rows_refusal : (vars : OverlapVars) (values : List (List ℤ)) (e : FileFault) → IsFaultOf NoMemory (overlap_of vars values) e → IsOfRows e → IsOwn (HasRowFault vars values) (refusal_of_rows e)
 rows_refusal vars values (Name fault) h own = absurd own
-rows_refusal vars values (Row r) h own = (tt, h)
+rows_refusal vars values (Row r) (inl h) own = absurd cc
+rows_refusal vars values (Row r) (inr h) own = (tt, h)
 rows_refusal vars values (AreaA i) h own = absurd own
 rows_refusal vars values (AreaB j) h own = absurd own
 rows_refusal vars values NoMemory h own = tt

@@ -1,5 +1,5 @@
--- What a call answers that reads a file, where it may want memory.
-use Rattle.std.specs.Prelude.{◌≡◌, ◌≢◌, Result, Err}
+-- Which faults a call answers that reads a file.
+use Rattle.std.specs.Prelude.{◌≢◌}
 use Rattle.exodus_mesh.specs.declared.ids.NameFault.{NameFault}
 use Rattle.exodus_mesh.specs.declared.ids.NameFault.TheVariants as names
 use Rattle.remap_files.specs.declared.faults.FileFault.{FileFault}
@@ -10,13 +10,13 @@ abbrev pub file_fault_of : NameFault → FileFault
 file_fault_of names.NoMemory = NoMemory
 file_fault_of fault = Name fault
 
--- a fault that was answered is what was to be answered, unless memory ran out, which is said by NoMemory alone
-abbrev pub Refuses : {Y : Type 0} → FileFault → Result Y FileFault → Type 0
-Refuses (Name fault) answer = (answer ≡ Err (Name fault)) × (fault ≢ names.NoMemory)
-Refuses (Row r) answer = answer ≡ Err (Row r)
-Refuses (AreaA i) answer = answer ≡ Err (AreaA i)
-Refuses (AreaB j) answer = answer ≡ Err (AreaB j)
-Refuses NoMemory answer = Unit {0}
+-- want of memory is said by NoMemory alone
+abbrev pub SaysMemoryAlone : FileFault → Type 0
+SaysMemoryAlone (Name fault) = fault ≢ names.NoMemory
+SaysMemoryAlone (Row r) = Unit {0}
+SaysMemoryAlone (AreaA i) = Unit {0}
+SaysMemoryAlone (AreaB j) = Unit {0}
+SaysMemoryAlone NoMemory = Unit {0}
 
 -- neither a name nor an area is at fault
 abbrev pub IsOfRows : FileFault → Type 0

@@ -3,7 +3,10 @@ ghost use Rattle.std.specs.Prelude.{◌≡◌, [], IfOk, IfErr, Ok};
 ghost use Rattle.std.specs.Option.{option_map};
 ghost use Rattle.nc_format.specs.Sound.{IsSound};
 ghost use Rattle.nc_format.specs.Numbers.{att_named};
-ghost use Rattle.exodus_mesh.specs.Names.{name_of, Answers, Refuses};
+ghost use Rattle.vec_exact.specs.Answers.{Answers};
+ghost use Rattle.nc_format.specs.Answers.{IsFaultOf};
+ghost use Rattle.exodus_mesh.specs.declared.ids.NameFault.TheVariants.{NoMemory};
+ghost use Rattle.exodus_mesh.specs.Names.{name_of};
 ghost use Rattle.remap_files.specs.OverlapNames.{is_within, att_in, count_in, column_in, planes_in, corner_in, five_in, overlap_vars_in};
 
 use crate::OverlapVars;
@@ -110,7 +113,7 @@ fn find_five(
     pieces: u32,
 ) -> Result<OverlapVars, NameFault>
     requires { IsSound file.now }
-    ensures { Answers (λ vars. vars) result (five_in file.now faces_a faces_b pieces) }
+    ensures { Answers NoMemory (λ vars. vars) result (five_in file.now faces_a faces_b pieces) }
 {
     let source = find_column(file, NumberKind::Int, pieces, NameId::Source, b"source")?;
     let target = find_column(file, NumberKind::Int, pieces, NameId::Target, b"target")?;
@@ -147,7 +150,7 @@ pub fn find_overlap(alloc: Global, file: &NcFile) -> Result<OverlapVars, NameFau
     requires sound { IsSound file.now }
     ensures vars { IfOk result (λ vars. overlap_vars_in file.now ≡ Ok vars) }
     // A fault that is answered is the first one, unless memory ran out.
-    ensures fault { IfErr result (λ fault. Refuses fault (overlap_vars_in file.now)) }
+    ensures fault { IfErr result (IsFaultOf NoMemory (overlap_vars_in file.now)) }
 {
     let faces_a = count(file, NameId::FacesA, b"faces_a", 1, 1_048_576)?;
     let faces_b = count(file, NameId::FacesB, b"faces_b", 1, 1_048_576)?;

@@ -1,7 +1,9 @@
 // The counts and the variables of a map, looked up by their names.
 ghost use Rattle.std.specs.Prelude.{◌≡◌, [], IfOk, IfErr, Ok};
 ghost use Rattle.nc_format.specs.Sound.{IsSound};
-ghost use Rattle.exodus_mesh.specs.Names.{name_of, Refuses};
+ghost use Rattle.nc_format.specs.Answers.{IsFaultOf};
+ghost use Rattle.exodus_mesh.specs.declared.ids.NameFault.TheVariants.{NoMemory};
+ghost use Rattle.exodus_mesh.specs.Names.{name_of};
 ghost use Rattle.remap_files.specs.MapNames.{list_in, map_vars_in};
 
 use crate::MapVars;
@@ -47,7 +49,7 @@ pub fn find_map(alloc: Global, file: &NcFile) -> Result<MapVars, NameFault>
     requires sound { IsSound file.now }
     ensures vars { IfOk result (λ vars. map_vars_in file.now ≡ Ok vars) }
     // A fault that is answered is the first one, unless memory ran out.
-    ensures fault { IfErr result (λ fault. Refuses fault (map_vars_in file.now)) }
+    ensures fault { IfErr result (IsFaultOf NoMemory (map_vars_in file.now)) }
 {
     let (col, n_s) = find_list(file, NumberKind::Int, MAX_PIECES, NameId::Col, b"col")?;
     let row = find_column(file, NumberKind::Int, n_s, NameId::Row, b"row")?;

@@ -1,7 +1,9 @@
 // The map of a whole file.
 ghost use Rattle.std.specs.Prelude.{◌≡◌, ◌<◌, length, slice_index, IfOk, IfErr, Ok};
 ghost use Rattle.nc_format.specs.Header.{IsHeader};
-ghost use Rattle.remap_files.specs.Answers.{Refuses};
+ghost use Rattle.nc_format.specs.Answers.{IsFaultOf};
+ghost use Rattle.remap_files.specs.declared.faults.FileFault.TheVariants.{NoMemory};
+ghost use Rattle.remap_files.specs.Answers.{SaysMemoryAlone};
 ghost use Rattle.remap_files.specs.MapIn.{map_in};
 
 use crate::reading::file_fault;
@@ -26,7 +28,8 @@ pub fn read_map(alloc: Global, file: &NcFile, bytes: &[u8]) -> Result<Map, FileF
     requires header { IsHeader bytes.now (length bytes.now) file.now }
     ensures map { IfOk result (λ map. map_in file.now bytes.now ≡ Ok map) }
     // A fault that is answered is the first one, unless memory ran out.
-    ensures fault { IfErr result (λ fault. Refuses fault (map_in file.now bytes.now)) }
+    ensures fault { IfErr result (IsFaultOf NoMemory (map_in file.now bytes.now)) }
+    ensures memory { IfErr result SaysMemoryAlone }
 {
     // Every header is sound.
     law_first_fault();

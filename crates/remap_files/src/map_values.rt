@@ -1,7 +1,9 @@
 // The map that the numbers of a file say.
 ghost use Rattle.std.specs.Prelude.{◌≡◌, ◌≤◌, ◌<◌, length, IfSome, IfOk, IfErr, Ok};
 ghost use Rattle.map_rows.specs.Maps.{IsFaceCount};
-ghost use Rattle.remap_files.specs.Answers.{Refuses, IsOfRowsOrAreas};
+ghost use Rattle.nc_format.specs.Answers.{IsFaultOf};
+ghost use Rattle.remap_files.specs.declared.faults.FileFault.TheVariants.{NoMemory};
+ghost use Rattle.remap_files.specs.Answers.{IsOfRowsOrAreas};
 ghost use Rattle.remap_files.specs.OverlapNames.{is_within};
 ghost use Rattle.remap_files.specs.FirstNot.{first_not};
 ghost use Rattle.remap_files.specs.MapValues.{is_good_map_row, map_row_at, map_rows_of, is_sum, is_sum_of_some, map_of};
@@ -158,7 +160,7 @@ pub fn map_from(
     ensures map { IfOk result (λ map. map_of vars.now
         (record { col = col.now; row = row.now; s = s.now }) area_a.now area_b.now ≡ Ok map) }
     // A fault that is answered is the first one, unless memory ran out.
-    ensures fault { IfErr result (λ fault. Refuses fault (map_of vars.now
+    ensures fault { IfErr result (IsFaultOf NoMemory (map_of vars.now
         (record { col = col.now; row = row.now; s = s.now }) area_a.now area_b.now)) }
     ensures of_rows_or_areas { IfErr result IsOfRowsOrAreas }
 {

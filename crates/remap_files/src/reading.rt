@@ -1,7 +1,9 @@
 // The overlap of a whole file.
 ghost use Rattle.std.specs.Prelude.{◌≡◌, length, IfOk, IfErr, Ok};
 ghost use Rattle.nc_format.specs.Header.{IsHeader};
-ghost use Rattle.remap_files.specs.Answers.{file_fault_of, Refuses, IsOfNamesOrRows};
+ghost use Rattle.nc_format.specs.Answers.{IsFaultOf};
+ghost use Rattle.remap_files.specs.declared.faults.FileFault.TheVariants.{NoMemory};
+ghost use Rattle.remap_files.specs.Answers.{file_fault_of, SaysMemoryAlone, IsOfNamesOrRows};
 ghost use Rattle.remap_files.specs.OverlapIn.{overlap_in};
 
 use crate::{FileFault, find_overlap, overlap_from};
@@ -12,7 +14,8 @@ use std::alloc::Global;
 
 // A fault of names is a fault of the file; want of memory stays want of memory.
 pub fn file_fault(fault: NameFault) -> FileFault
-    ensures { result ≡ file_fault_of fault }
+    ensures fault { result ≡ file_fault_of fault }
+    ensures memory { SaysMemoryAlone result }
 {
     match fault {
         NameFault::NoMemory => FileFault::NoMemory,
@@ -28,7 +31,8 @@ pub fn read_overlap(alloc: Global, file: &NcFile, bytes: &[u8]) -> Result<Overla
     requires header { IsHeader bytes.now (length bytes.now) file.now }
     ensures overlap { IfOk result (λ overlap. overlap_in file.now bytes.now ≡ Ok overlap) }
     // A fault that is answered is the first one, unless memory ran out.
-    ensures fault { IfErr result (λ fault. Refuses fault (overlap_in file.now bytes.now)) }
+    ensures fault { IfErr result (IsFaultOf NoMemory (overlap_in file.now bytes.now)) }
+    ensures memory { IfErr result SaysMemoryAlone }
     ensures of_names_or_rows { IfErr result IsOfNamesOrRows }
 {
     // Every header is sound.

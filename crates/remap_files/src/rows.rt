@@ -4,7 +4,9 @@ ghost use Rattle.std.specs.List.{list_all, range_with_len};
 ghost use Rattle.exodus_mesh.specs.MeshValues.{rows_of};
 ghost use Rattle.clip.specs.Overlaps.{IsFaceCount};
 ghost use Rattle.remap_files.specs.Rows.{HasLens, IsGoodRing};
-ghost use Rattle.remap_files.specs.Answers.{Refuses, IsOfRows};
+ghost use Rattle.nc_format.specs.Answers.{IsFaultOf};
+ghost use Rattle.remap_files.specs.declared.faults.FileFault.TheVariants.{NoMemory};
+ghost use Rattle.remap_files.specs.Answers.{IsOfRows};
 ghost use Rattle.remap_files.specs.OverlapNames.{is_within};
 ghost use Rattle.remap_files.specs.OverlapRows.{columns_of, exceeds, has_good_faces, ring_begin, ring_len, has_good_ring, is_good_row, piece_of, piece_at, row_fault, overlap_from, overlap_of, overlap_lens};
 
@@ -208,7 +210,7 @@ fn make_pieces(
     ensures good { IfOk result (λ _. row_fault vars.now rows.now ≡ None) }
     ensures pieces { IfOk result (λ pieces.
         pieces.items ≡ map (piece_at rows.now) (range_with_len 0 vars.now.pieces)) }
-    ensures fault { IfErr result (λ fault. Refuses fault (overlap_from vars.now rows.now)) }
+    ensures fault { IfErr result (IsFaultOf NoMemory (overlap_from vars.now rows.now)) }
     ensures of_rows { IfErr result IsOfRows }
 {
     let mut pieces = Vec::with_capacity(alloc, vars.pieces as usize)?;
@@ -250,7 +252,7 @@ pub fn overlap_from(
     requires lists { map length values.now ≡ overlap_lens vars.now }
     ensures overlap { IfOk result (λ overlap. overlap_of vars.now values.now ≡ Ok overlap) }
     // A fault that is answered is the first one, unless memory ran out.
-    ensures fault { IfErr result (λ fault. Refuses fault (overlap_of vars.now values.now)) }
+    ensures fault { IfErr result (IsFaultOf NoMemory (overlap_of vars.now values.now)) }
     ensures of_rows { IfErr result IsOfRows }
 {
     if vars.pieces == 0 {

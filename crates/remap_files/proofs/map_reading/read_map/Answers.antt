@@ -6,7 +6,8 @@ use Rattle.exodus_mesh.specs.VarLens.{IsNumberVar}
 use Rattle.exodus_mesh.specs.MeshIn.{values_in}
 use Rattle.exodus_mesh.proofs.VarValues.{len_values}
 use Rattle.remap_files.specs.declared.faults.FileFault.{FileFault}
-use Rattle.remap_files.specs.Answers.{Refuses}
+use Rattle.remap_files.specs.declared.faults.FileFault.TheVariants.{NoMemory}
+use Rattle.nc_format.specs.Answers.{IsFaultOf}
 use Rattle.remap_files.specs.MapValues.{RowColumns, map_of}
 use Rattle.remap_files.specs.MapIn.{map_in}
 use Rattle.remap_files.proofs.FoundMap.{AreMapVars, map_vars_ok}
@@ -18,7 +19,7 @@ find_map-requires c = record { sound = c.law_first_fault.ensures.sound c.args.by
 
 pub returns-in-Err-clause-fault : goal.returns-in-Err-clause-fault
 returns-in-Err-clause-fault c =
-    subst (λ (f : FileFault). Refuses f (map_in c.args.file.now c.args.bytes.now)) (sym c.file_fault.ensures) (map_names_refused c.args.file.now c.args.bytes.now c.in-Err.fault c.in-Err.ensures.fault)
+    subst (IsFaultOf NoMemory (map_in c.args.file.now c.args.bytes.now)) (sym c.file_fault.ensures.fault) (map_names_refused c.args.file.now c.args.bytes.now c.in-Err.fault c.in-Err.ensures.fault)
 
 pub place-requires : goal.place-requires
 place-requires c = omega (arith, (map_vars_ok c.args.file.now c.in-Ok.vars c.in-Ok.ensures.vars).five)
@@ -145,4 +146,4 @@ returns-clause-fault c =
     ∙ ap₂ (λ (a b : List ℤ). map_of v (record { col = values_in file bytes (slice_index v.vars 0); row = values_in file bytes (slice_index v.vars 1); s = values_in file bytes (slice_index v.vars 2) }) a b) area_a area_b
     ∙ sym (map_in_is file bytes v c.in-Ok.ensures.vars)
     in
-    subst (λ (r : Result MapParts FileFault). IfErr c.map_from.result (λ fault. Refuses fault r)) is c.map_from.ensures.fault
+    subst (λ (r : Result MapParts FileFault). IfErr c.map_from.result (IsFaultOf NoMemory r)) is c.map_from.ensures.fault

@@ -1,4 +1,4 @@
-use Rattle.std.proofs.Common.{◌≡◌, ◌<◌, ◌≤◌, ◌∙◌, ℕ, ℤ, Bool, Option, Some, None, Ok, length, List, All, ap, ap₂, sym, subst, refl, arith}
+use Rattle.std.proofs.Common.{◌≡◌, ◌<◌, ◌≤◌, ◌∙◌, ℕ, ℤ, Bool, Option, Some, None, Ok, length, List, All, ap, ap₂, sym, subst, refl, inr, arith}
 use Rattle.map_rows.specs.declared.rows.MapRow.{MapRow}
 use Rattle.map_rows.specs.Maps.{MapParts, IsSoundRow, IsSoundMap, source_of, target_of, measure_of, areas_of}
 use Rattle.map_rows.proofs.FaceSums.{length-sums_of}
@@ -13,7 +13,7 @@ overflow_add-result c = omega (arith, c.in-Some.ensures.below, c.requires.rows)
 
 pub returns-in-Some-clause-fault : goal.returns-in-Some-clause-fault
 returns-in-Some-clause-fault c =
-    row_is c.args.vars.now (record { col = c.args.col.now; row = c.args.row.now; s = c.args.s.now }) c.args.area_a.now c.args.area_b.now c.in-Some.r (sym c.in-Some.ensures.first)
+    inr (row_is c.args.vars.now (record { col = c.args.col.now; row = c.args.row.now; s = c.args.s.now }) c.args.area_a.now c.args.area_b.now c.in-Some.r (sym c.in-Some.ensures.first))
 
 pub areas_of_rows-requires-clause-count : goal.areas_of_rows-requires-clause-count
 areas_of_rows-requires-clause-count c =
@@ -44,8 +44,8 @@ returns-in-Some-first_other_source-clause-fault c =
     let columns : RowColumns = record { col = c.args.col.now; row = c.args.row.now; s = c.args.s.now } in
     let is : c.deref.result.now ≡ map_rows_of v.n_s columns = c.deref.ensures.value ∙ c.in_ok-rows.ensures in
     let sums : c.deref-2.result.now ≡ areas_of source_of v.n_a (map_rows_of v.n_s columns) = c.deref-2.ensures.value ∙ c.in_ok-sums.ensures.source ∙ ap (areas_of source_of v.n_a) is in
-    source_is v columns c.args.area_a.now c.args.area_b.now c.in-Some-first_other_source.i (sym c.in_default.ensures.first)
-    (first_same is_sum c.args.area_a.now _ _ _ _ _ sums c.requires.area_a (sym c.in-Some-first_other_source.ensures.first))
+    inr (source_is v columns c.args.area_a.now c.args.area_b.now c.in-Some-first_other_source.i (sym c.in_default.ensures.first)
+    (first_same is_sum c.args.area_a.now _ _ _ _ _ sums c.requires.area_a (sym c.in-Some-first_other_source.ensures.first)))
 
 pub first_other_target-requires-clause-same : goal.first_other_target-requires-clause-same
 first_other_target-requires-clause-same c =
@@ -64,9 +64,9 @@ returns-in-Some-first_other_target-clause-fault c =
     let is : c.deref.result.now ≡ map_rows_of v.n_s columns = c.deref.ensures.value ∙ c.in_ok-rows.ensures in
     let sources : c.deref-2.result.now ≡ areas_of source_of v.n_a (map_rows_of v.n_s columns) = c.deref-2.ensures.value ∙ c.in_ok-sums.ensures.source ∙ ap (areas_of source_of v.n_a) is in
     let targets : c.deref-3.result.now ≡ areas_of target_of v.n_b (map_rows_of v.n_s columns) = c.deref-3.ensures.value ∙ c.in_ok-sums.ensures.target ∙ ap (areas_of target_of v.n_b) is in
-    target_is v columns c.args.area_a.now c.args.area_b.now c.in-Some-first_other_target.j (sym c.in_default.ensures.first)
+    inr (target_is v columns c.args.area_a.now c.args.area_b.now c.in-Some-first_other_target.j (sym c.in_default.ensures.first)
     (first_same is_sum c.args.area_a.now _ _ _ _ _ sources c.requires.area_a (sym c.in_default-first_other_source.ensures.first))
-    (first_same is_sum_of_some c.args.area_b.now _ _ _ _ _ targets c.requires.area_b (sym c.in-Some-first_other_target.ensures.first))
+    (first_same is_sum_of_some c.args.area_b.now _ _ _ _ _ targets c.requires.area_b (sym c.in-Some-first_other_target.ensures.first)))
 
 pub invariant_of-result : goal.invariant_of-result
 invariant_of-result c =

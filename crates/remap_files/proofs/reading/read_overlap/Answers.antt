@@ -3,7 +3,8 @@ use Rattle.std.specs.Prelude.{IfOk, IfErr}
 use Rattle.clip.specs.Overlaps.{OverlapParts}
 use Rattle.remap_files.specs.declared.vars.OverlapVars.{OverlapVars}
 use Rattle.remap_files.specs.declared.faults.FileFault.{FileFault}
-use Rattle.remap_files.specs.Answers.{Refuses}
+use Rattle.remap_files.specs.declared.faults.FileFault.TheVariants.{NoMemory}
+use Rattle.nc_format.specs.Answers.{IsFaultOf}
 use Rattle.exodus_mesh.specs.Found.{IsSomeIntVar}
 use Rattle.remap_files.specs.OverlapRows.{overlap_of}
 use Rattle.remap_files.specs.OverlapIn.{lists_in, overlap_in}
@@ -16,7 +17,7 @@ find_overlap-requires c = record { sound = c.law_first_fault.ensures.sound c.arg
 
 pub returns-in-Err-clause-fault : goal.returns-in-Err-clause-fault
 returns-in-Err-clause-fault c =
-    subst (λ (f : FileFault). Refuses f (overlap_in c.args.file.now c.args.bytes.now)) (sym c.file_fault.ensures) (names_refused c.args.file.now c.args.bytes.now c.in-Err.fault c.in-Err.ensures.fault)
+    subst (IsFaultOf NoMemory (overlap_in c.args.file.now c.args.bytes.now)) (sym c.file_fault.ensures.fault) (names_refused c.args.file.now c.args.bytes.now c.in-Err.fault c.in-Err.ensures.fault)
 
 pub read_lists-requires-clause-vars : goal.read_lists-requires-clause-vars
 read_lists-requires-clause-vars c =
@@ -58,4 +59,4 @@ returns-clause-fault c =
     let same : c.deref.result.now ≡ v.vars = c.deref.ensures.value ∙ ap (λ (w : OverlapVars). w.vars) c.vars.view_is in
     let lists : c.deref-2.result.now ≡ lists_in file bytes v.vars = c.deref-2.ensures.value ∙ c.in_ok-lists.ensures ∙ ap (lists_in file bytes) same in
     let is : overlap_of v c.deref-2.result.now ≡ overlap_in file bytes = ap (overlap_of v) lists ∙ sym (overlap_in_is file bytes v c.in-Ok.ensures.vars) in
-    subst (λ (r : Result OverlapParts FileFault). IfErr c.overlap_from.result (λ fault. Refuses fault r)) is c.overlap_from.ensures.fault
+    subst (λ (r : Result OverlapParts FileFault). IfErr c.overlap_from.result (IsFaultOf NoMemory r)) is c.overlap_from.ensures.fault

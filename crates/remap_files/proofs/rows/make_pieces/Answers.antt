@@ -1,4 +1,4 @@
-use Rattle.std.proofs.Common.{◌≡◌, ◌<◌, ◌+◌, ◌++◌, ◌∷◌, [], ◌∙◌, ap, sym, map, length, false, true, arith}
+use Rattle.std.proofs.Common.{◌≡◌, ◌<◌, ◌+◌, ◌++◌, ◌∷◌, [], ◌∙◌, ap, sym, map, length, false, true, inr, arith}
 use Rattle.std.specs.List.{range_with_len}
 use Rattle.std.proofs.lemmas.List.FromFn.{map-range_with_len_more}
 use Rattle.remap_files.specs.Rows.{IsGoodRing}
@@ -22,7 +22,7 @@ returns-then-not-is_good_row-clause-fault c =
     let columns = c.args.rows.now in
     let r = c.loop-number.number in
     let bad : is_good_row v.faces_a v.faces_b columns r ≡ false = sym c.is_good_row.ensures ∙ c.if-not-is_good_row.true in
-    fault_is v columns (r + 1) (row_is_bad v columns r c.loop-number-test.true c.loop-number.invariant.good bad)
+    inr (fault_is v columns (r + 1) (row_is_bad v columns r c.loop-number-test.true c.loop-number.invariant.good bad))
 
 pub make_piece-requires-clause-ring : goal.make_piece-requires-clause-ring
 make_piece-requires-clause-ring c =
@@ -59,7 +59,7 @@ returns-then-begin-planes-clause-fault c =
     let at : c.loop-number.number ≡ v.pieces = omega (arith, c.loop-number-test.false, c.loop-number.auto.number-end) in
     let all : AreGood v columns v.pieces = λ k below. c.loop-number.invariant.good k (omega (arith, at, below)) in
     let begin : ring_begin columns.ring_size v.pieces ≡ c.loop-number.begin = ap (ring_begin columns.ring_size) (sym at) ∙ sym c.loop-number.invariant.begin in
-    fault_is v columns v.pieces (rest_is_bad v columns all (omega (arith, begin, c.plane_count-planes.ensures, c.if-begin-planes.true)))
+    inr (fault_is v columns v.pieces (rest_is_bad v columns all (omega (arith, begin, c.plane_count-planes.ensures, c.if-begin-planes.true))))
 
 pub returns-clause-good : goal.returns-clause-good
 returns-clause-good c =
