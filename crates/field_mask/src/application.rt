@@ -37,12 +37,12 @@ fn put_target(
     requires whole { block.to * map.now.n_b ≤ length columns.old.whole.items }
     requires rest { block.to * map.now.n_b ≤ length columns.old.rest.items }
     requires part { block.to * map.now.n_b ≤ length columns.old.part.items }
-    ensures whole { IsPut map.now.n_b (masked_number masked_whole map.now fill values.now) block.from
-        block.to j (j + 1) columns.old.whole.items columns.new.whole.items }
-    ensures rest { IsPut map.now.n_b (masked_number masked_rest map.now fill values.now) block.from
-        block.to j (j + 1) columns.old.rest.items columns.new.rest.items }
-    ensures part { IsPut map.now.n_b (masked_number masked_part map.now fill values.now) block.from
-        block.to j (j + 1) columns.old.part.items columns.new.part.items }
+    ensures whole { IsPut map.now.n_b (masked_number masked_whole map.now fill values.now)
+        block.from block.to j (j + 1) columns.old.whole.items columns.new.whole.items }
+    ensures rest { IsPut map.now.n_b (masked_number masked_rest map.now fill values.now)
+        block.from block.to j (j + 1) columns.old.rest.items columns.new.rest.items }
+    ensures part { IsPut map.now.n_b (masked_number masked_part map.now fill values.now)
+        block.from block.to j (j + 1) columns.old.part.items columns.new.part.items }
 {
     let areas: &[i64] = &map.area_b.items;
     let divisor = divisor_of(areas[j]);
@@ -71,12 +71,12 @@ fn put_block(
     requires whole { block.to * map.now.n_b ≤ length columns.old.whole.items }
     requires rest { block.to * map.now.n_b ≤ length columns.old.rest.items }
     requires part { block.to * map.now.n_b ≤ length columns.old.part.items }
-    ensures whole { IsPut map.now.n_b (masked_number masked_whole map.now fill values.now) block.from
-        block.to 0 map.now.n_b columns.old.whole.items columns.new.whole.items }
-    ensures rest { IsPut map.now.n_b (masked_number masked_rest map.now fill values.now) block.from
-        block.to 0 map.now.n_b columns.old.rest.items columns.new.rest.items }
-    ensures part { IsPut map.now.n_b (masked_number masked_part map.now fill values.now) block.from
-        block.to 0 map.now.n_b columns.old.part.items columns.new.part.items }
+    ensures whole { IsPut map.now.n_b (masked_number masked_whole map.now fill values.now)
+        block.from block.to 0 map.now.n_b columns.old.whole.items columns.new.whole.items }
+    ensures rest { IsPut map.now.n_b (masked_number masked_rest map.now fill values.now)
+        block.from block.to 0 map.now.n_b columns.old.rest.items columns.new.rest.items }
+    ensures part { IsPut map.now.n_b (masked_number masked_part map.now fill values.now)
+        block.from block.to 0 map.now.n_b columns.old.part.items columns.new.part.items }
 {
     for j in 0..map.n_b {
         let rows = by_target.of(j + 1);
@@ -98,12 +98,12 @@ fn put_slices(
     requires whole { slices * map.now.n_b ≤ length columns.old.whole.items }
     requires rest { slices * map.now.n_b ≤ length columns.old.rest.items }
     requires part { slices * map.now.n_b ≤ length columns.old.part.items }
-    ensures whole { IsPut map.now.n_b (masked_number masked_whole map.now fill values.now) 0 slices 0
-        map.now.n_b columns.old.whole.items columns.new.whole.items }
-    ensures rest { IsPut map.now.n_b (masked_number masked_rest map.now fill values.now) 0 slices 0
-        map.now.n_b columns.old.rest.items columns.new.rest.items }
-    ensures part { IsPut map.now.n_b (masked_number masked_part map.now fill values.now) 0 slices 0
-        map.now.n_b columns.old.part.items columns.new.part.items }
+    ensures whole { IsPut map.now.n_b (masked_number masked_whole map.now fill values.now)
+        0 slices 0 map.now.n_b columns.old.whole.items columns.new.whole.items }
+    ensures rest { IsPut map.now.n_b (masked_number masked_rest map.now fill values.now)
+        0 slices 0 map.now.n_b columns.old.rest.items columns.new.rest.items }
+    ensures part { IsPut map.now.n_b (masked_number masked_part map.now fill values.now)
+        0 slices 0 map.now.n_b columns.old.part.items columns.new.part.items }
 {
     let mut from = 0;
     while from < slices {
