@@ -8,7 +8,7 @@ use Rattle.clip.specs.declared.pieces.Piece.{Piece}
 use Rattle.clip.specs.Overlaps.{OverlapParts}
 use Rattle.offline_map.specs.declared.faults.MapFault.{MapFault}
 use Rattle.offline_map.specs.declared.faults.MapFault.TheVariants.{CountsA, CountsB, Row, Uncovered, NoMemory}
-use Rattle.offline_map.specs.MapFaults.{IsRightPiece, HasCountsOf, overlap_of, IsFirstWrongPiece, IsFirstWithoutRow, IsMapFaultOf, IsMappable, OneMapFault}
+use Rattle.offline_map.specs.MapFaults.{IsRightPiece, IsFirstWrongPiece, IsFirstWithoutRow, IsMapFaultOf, IsMappable, OneMapFault}
 
 abbrev pub no_piece : Piece
 no_piece = record { a = 0; b = 0; ring = record { items = [] }; corners = [] }
@@ -78,6 +78,3 @@ refused a b o p (Err (CountsA m n)) e w k fault h = inl (ap Err (same_map_fault 
 refused a b o p (Err (CountsB m n)) e w k fault h = inl (ap Err (same_map_fault a b o (CountsB m n) fault (subst (λ (q : OverlapParts). IsMapFaultOf a b q (CountsB m n)) e (k (λ q. cc))) h))
 refused a b o p (Err (Row n)) e w k fault h = inl (ap Err (same_map_fault a b o (Row n) fault (subst (λ (q : OverlapParts). IsMapFaultOf a b q (Row n)) e (k (λ q. cc))) h))
 refused a b o p (Err (Uncovered n)) e w k fault h = inl (ap Err (same_map_fault a b o (Uncovered n) fault (subst (λ (q : OverlapParts). IsMapFaultOf a b q (Uncovered n)) e (k (λ q. cc))) h))
-
-pub same_overlap : (a b : RawMesh) (o : OverlapParts) (pieces : List Piece) → pieces ≡ o.pieces → HasCountsOf a b o → overlap_of a b pieces ≡ o
-same_overlap a b o pieces e h = let s = sym h.source in let t = sym h.target in λ i. record { faces_a = s i; faces_b = t i; pieces = e i }

@@ -1,3 +1,4 @@
 mod RightPieces
 pub mod FirstFaults
 pub mod Made
+mod Makings

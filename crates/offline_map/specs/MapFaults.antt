@@ -20,10 +20,6 @@ pub record HasCountsOf (a b : RawMesh) (o : OverlapParts) : Type 0 where
   pub source : o.faces_a ≡ length a.faces
   pub target : o.faces_b ≡ length b.faces
 
--- these pieces, as an overlap with the face counts of the two meshes
-abbrev pub overlap_of : RawMesh → RawMesh → List Piece → OverlapParts
-overlap_of a b pieces = record { faces_a = length a.faces; faces_b = length b.faces; pieces = pieces }
-
 -- the piece with this number, from 1, is the first that is not right
 pub record IsFirstWrongPiece (a b : RawMesh) (pieces : List Piece) (r : ℕ) : Type 0 where
   pub least : 1 ≤ r

@@ -5,6 +5,7 @@ mod areas;
 mod faults;
 mod laws;
 mod make;
+mod maker;
 mod pieces;
 #[cfg(test)]
 mod tests;
@@ -12,4 +13,5 @@ mod tests;
 pub use faults::MapFault;
 pub use laws::law_one_map_fault;
 pub use make::make_map;
+pub use maker::MapMaker;
 pub use map_rows::{Map, MapRow, MapRows};

@@ -1,67 +1,46 @@
 // The map of an overlap that was tested.
-ghost use Rattle.std.specs.Prelude.{◌≡◌, ◌≢◌, ◌⊎◌, Err, IfOk, IfErr, OnOk};
-ghost use Rattle.clip.specs.Overlaps.{IsSoundOverlap};
-ghost use Rattle.offline_map.specs.Maps.{map_of};
-ghost use Rattle.offline_map.specs.MapFaults.{overlap_of, HasCountsOf, IsMappable, IsMapFaultOf};
+ghost use Rattle.std.specs.Prelude.{◌≡◌, ◌≢◌, ◌≤◌, ◌⊎◌, [], All, length, map, Err, IfOk, IfErr, OnOk};
+ghost use Rattle.clip.specs.Overlaps.{IsSoundPiece};
+ghost use Rattle.offline_map.specs.Maps.{row_of, map_of};
+ghost use Rattle.offline_map.specs.MapFaults.{IsRightPiece, IsFaultOfPieces, IsMappable, IsMapFaultOf};
 ghost use Rattle.offline_map.specs.declared.faults.MapFault.{MapFault as FirstFault};
 ghost use Rattle.offline_map.specs.declared.faults.MapFault.TheVariants.{NoMemory as MapNoMemory};
 
 use crate::MapFault;
-use crate::areas::check_covered;
-use crate::pieces::tested_rows;
+use crate::maker::MapMaker;
 use clip::{Overlap, Piece};
-use map_rows::{Map, MapRows, areas_of_rows};
-use mesh_check::{Mesh, face_count};
+use map_rows::Map;
+use mesh_check::Mesh;
 use std::alloc::Global;
-use vec_exact::Longs;
 
-// Whether the overlap has the face counts of the two meshes.
-fn check_counts(a: &Mesh, b: &Mesh, overlap: &Overlap) -> Result<(), MapFault>
-    ensures counts { OnOk result (HasCountsOf a.now b.now overlap.now) }
-    ensures fault { IfErr result (IsMapFaultOf a.now b.now overlap.now) }
-    ensures kept { IsSoundOverlap overlap.now }
+// Puts all pieces of an overlap, the first of them first.
+fn put_pieces(maker: &mut MapMaker, pieces: &[Piece]) -> Result<(), MapFault>
+    requires begun { maker.old.rows ≡ [] }
+    requires count { length pieces.now ≤ 8388608 }
+    requires sound { All (IsSoundPiece (length maker.old.a.faces) (length maker.old.b.faces)) pieces.now }
+    ensures rows { OnOk result
+        (maker.new ≡ record maker.old { rows = map row_of pieces.now }) }
+    ensures right { OnOk result (All (IsRightPiece maker.old.a maker.old.b) pieces.now) }
+    ensures fault { IfErr result (IsFaultOfPieces maker.old.a maker.old.b pieces.now) }
 {
-    let source = face_count(a);
-    if overlap.faces_a != source {
-        return Err(MapFault::CountsA {
-            file: overlap.faces_a,
-            mesh: source,
-        });
-    }
-    let target = face_count(b);
-    if overlap.faces_b != target {
-        return Err(MapFault::CountsB {
-            file: overlap.faces_b,
-            mesh: target,
-        });
+    for piece in pieces {
+        maker.put(piece)?;
     }
     Ok(())
 }
 
-// The map of these pieces of the two meshes.
-fn map_of_pieces(alloc: Global, a: &Mesh, b: &Mesh, pieces: &[Piece]) -> Result<Map, MapFault>
-    requires { IsSoundOverlap (overlap_of a.now b.now pieces.now) }
-    ensures map { IfOk result (λ map. map ≡ map_of (overlap_of a.now b.now pieces.now)) }
-    ensures accepted { OnOk result (IsMappable a.now b.now (overlap_of a.now b.now pieces.now)) }
+// The map of an overlap, or its fault.
+fn map_of_overlap(alloc: Global, a: &Mesh, b: &Mesh, overlap: &Overlap) -> Result<Map, MapFault>
+    ensures map { IfOk result (λ map. map ≡ map_of overlap.now) }
+    ensures accepted { OnOk result (IsMappable a.now b.now overlap.now) }
     ensures fault { IfErr result (λ fault. fault ≢ MapNoMemory
-        → IsMapFaultOf a.now b.now (overlap_of a.now b.now pieces.now) fault) }
+        → IsMapFaultOf a.now b.now overlap.now fault) }
 {
-    let n_a = face_count(a);
-    let n_b = face_count(b);
-    let rows = tested_rows(alloc, a, b, pieces)?;
-    let areas = areas_of_rows(alloc, n_a, n_b, &rows)?;
-    check_covered(&areas.target)?;
-    Ok(Map {
-        n_a,
-        n_b,
-        rows: MapRows { items: rows },
-        area_a: Longs {
-            items: areas.source,
-        },
-        area_b: Longs {
-            items: areas.target,
-        },
-    })
+    let pieces = overlap.pieces.items.as_slice();
+    let count = pieces.len();
+    let mut maker = MapMaker::begin(alloc, a, b, overlap.faces_a, overlap.faces_b, count)?;
+    put_pieces(&mut maker, pieces)?;
+    maker.finish(alloc)
 }
 
 /// The map of the pieces of `overlap`, which is one of `a` and `b`: a row for each piece, whose
@@ -81,6 +60,5 @@ pub fn make_map(alloc: Global, a: &Mesh, b: &Mesh, overlap: &Overlap) -> Result<
     ensures refused { (fault : FirstFault) → IsMapFaultOf a.now b.now overlap.now fault
         → (result ≡ Err fault) ⊎ (result ≡ Err MapNoMemory) }
 {
-    check_counts(a, b, overlap)?;
-    map_of_pieces(alloc, a, b, &overlap.pieces.items)
+    map_of_overlap(alloc, a, b, overlap)
 }

@@ -1,5 +1,5 @@
 // The test of each piece that an overlap lists, and its row.
-ghost use Rattle.std.specs.Prelude.{◌≡◌, ◌≢◌, ◌↔◌, ℕ, ◌<◌, ◌≤◌, All, length, map, IsTrue, IfOk, IfErr, OnOk, MatchOption};
+ghost use Rattle.std.specs.Prelude.{◌≡◌, ◌≢◌, ◌↔◌, ℕ, ◌<◌, All, length, IsTrue, MatchOption};
 ghost use Rattle.vec_exact.specs.declared.Vec3.{Vec3 as Triple};
 ghost use Rattle.vec_exact.specs.Vector.{zero_triple};
 ghost use Rattle.vec_exact.specs.Cycle.{corner as corner_of};
@@ -10,14 +10,12 @@ ghost use Rattle.clip.specs.Forms.{IsFormOf};
 ghost use Rattle.clip.specs.Overlaps.{IsSoundPiece};
 ghost use Rattle.piece_measure.specs.Grid.{IsOnGrid, grid_corner_of, grid_corners_of};
 ghost use Rattle.offline_map.specs.Maps.{row_of};
-ghost use Rattle.offline_map.specs.MapFaults.{IsRightPiece, IsFaultOfPieces};
+ghost use Rattle.offline_map.specs.MapFaults.{IsRightPiece};
 
-use crate::MapFault;
 use clip::{CornerForm, Outline, Piece, Ring, corner_form, is_ring_of_outlines, read_outline};
 use map_rows::MapRow;
 use mesh_check::Mesh;
 use piece_measure::{grid_corner, grid_node, measure};
-use std::alloc::Global;
 
 // A corner of a ring on the grid.
 fn grid_of_form(form: CornerForm) -> [i32; 3]
@@ -76,8 +74,16 @@ fn is_right(a: &Mesh, b: &Mesh, piece: &Piece, pair: &mut Pair) -> bool
     are_grid_corners(&pair.source, &pair.target, &piece.ring, corners)
 }
 
+// A pair before the faces of any piece were read.
+pub fn no_pair() -> Pair {
+    Pair {
+        source: Outline::new(),
+        target: Outline::new(),
+    }
+}
+
 // The row of a piece that is right.
-fn tested_row(a: &Mesh, b: &Mesh, piece: &Piece, pair: &mut Pair) -> Option<MapRow>
+pub fn tested_row(a: &Mesh, b: &Mesh, piece: &Piece, pair: &mut Pair) -> Option<MapRow>
     requires { IsSoundPiece (length a.now.faces) (length b.now.faces) piece.now }
     ensures { MatchOption result (¬ IsRightPiece a.now b.now piece.now)
         (λ row. IsRightPiece a.now b.now piece.now × (row ≡ row_of piece.now)) }
@@ -90,31 +96,4 @@ fn tested_row(a: &Mesh, b: &Mesh, piece: &Piece, pair: &mut Pair) -> Option<MapR
         row: piece.b,
         s: measure(piece.corners.items.as_slice()),
     })
-}
-
-// The rows of pieces that are all right, or the first that is not.
-pub fn tested_rows(
-    alloc: Global,
-    a: &Mesh,
-    b: &Mesh,
-    pieces: &[Piece],
-) -> Result<Vec<MapRow>, MapFault>
-    requires count { length pieces.now ≤ 8388608 }
-    requires sound { All (IsSoundPiece (length a.now.faces) (length b.now.faces)) pieces.now }
-    ensures rows { IfOk result (λ rows. rows.items ≡ map row_of pieces.now) }
-    ensures right { OnOk result (All (IsRightPiece a.now b.now) pieces.now) }
-    ensures fault { IfErr result (λ fault. IsFaultOfPieces a.now b.now pieces.now fault) }
-{
-    let mut rows = Vec::with_capacity(alloc, pieces.len())?;
-    let mut pair = Pair {
-        source: Outline::new(),
-        target: Outline::new(),
-    };
-    for (i, piece) in pieces.iter().enumerate() {
-        let Some(row) = tested_row(a, b, piece, &mut pair) else {
-            return Err(MapFault::Row(i as u32 + 1));
-        };
-        rows.push(row)?;
-    }
-    Ok(rows)
 }
