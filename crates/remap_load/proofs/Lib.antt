@@ -2,4 +2,5 @@ pub mod Answered
 pub mod Contents
 pub mod Costs
 pub mod Fronts
+mod PartValues
 pub mod Reading

@@ -4,6 +4,7 @@
 mod fault;
 mod header;
 mod numbers;
+mod parts;
 mod reads;
 mod refusal;
 mod variables;
@@ -12,6 +13,7 @@ pub use fault::LoadFault;
 pub use header::load_header;
 use nc_format::{Bytes, NcFile};
 pub use numbers::Numbers;
+pub use parts::load_part;
 pub use refusal::FileRefusal;
 pub use variables::{load_ints, load_lists, load_longs, load_numbers};
 

@@ -18,7 +18,7 @@ use std::alloc::{AllocError, Global};
 use vec_exact::{Ints, Longs};
 
 // The variable at a place in the list of variables.
-fn variable<'a>(head: &'a Head, var: u32) -> &'a NcVar
+pub fn variable<'a>(head: &'a Head, var: u32) -> &'a NcVar
     requires { IsSome (slice_get head.now.file.vars var) }
     ensures { slice_get head.now.file.vars var ≡ Some result.now }
 {
@@ -27,7 +27,7 @@ fn variable<'a>(head: &'a Head, var: u32) -> &'a NcVar
 
 // Puts `part` bytes of the file, from `at` on, behind those of `bytes`. Where the first bytes have
 // them all, nothing is read.
-fn put_piece<F: Files>(
+pub fn put_piece<F: Files>(
     files: &mut F,
     name: &str,
     head: &Head,
