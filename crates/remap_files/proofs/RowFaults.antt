@@ -1,5 +1,5 @@
 -- The first row at fault.
-use Rattle.std.proofs.Common.{◌≡◌, ◌<◌, ◌≤◌, ◌+◌, ◌*◌, ◌⊎◌, inl, inr, ℕ, zero, suc, ℤ, pos, Bool, true, false, not, cond, List, [], ◌∷◌, length, take, map, ◌≢◌, ◌==◌, if◌then◌else◌, Option, Some, None, Ok, Err, refl, ap, sym, subst, ◌∙◌, arith, unsigned_abs, slice_index_or}
+use Rattle.std.proofs.Common.{◌≡◌, ◌<◌, ◌≤◌, ◌+◌, ◌*◌, ◌⊎◌, inl, inr, ℕ, zero, suc, ℤ, pos, Bool, true, false, not, cond, List, [], ◌∷◌, length, take, drop, map, ◌≢◌, ◌==◌, if◌then◌else◌, Option, Some, None, Ok, Err, refl, ap, sym, subst, ◌∙◌, arith, unsigned_abs, slice_index_or}
 use Rattle.std.specs.List.{range_with_len, sum_by}
 use Rattle.std.proofs.lemmas.Bool.{lt-ltb, le-ltb}
 use Rattle.std.proofs.lemmas.Bool.Decides.{nat_tests}
@@ -8,7 +8,7 @@ use Rattle.std.proofs.Math.Seq.{take-suc}
 use Rattle.remap_files.specs.declared.vars.OverlapVars.{OverlapVars}
 use Rattle.remap_files.specs.declared.faults.FileFault.TheVariants.{Row}
 use Rattle.remap_files.specs.OverlapRows.{Columns, columns_of, ring_begin, ring_len, is_good_row, first_fault, rest_fault, row_fault, unless_fault, overlap_at, overlap_from, overlap_of, overlap_lens, piece_at}
-use Rattle.remap_files.specs.Rows.{HasLens}
+use Rattle.remap_files.specs.Rows.{HasLens, HasRowLens, with_corners, piece_with}
 use Rattle.remap_files.proofs.FirstNot.{one_more_good as one_more, first_is, none_is, all_good}
 
 -- rows up to a number are at no fault
@@ -31,6 +31,16 @@ rest_is_bad v c all past = no_bad_row v c all ∙ ap (λ b. cond b (Some v.piece
 
 pub no_fault : (v : OverlapVars) (c : Columns) → AreGood v c v.pieces → length c.ring_plane ≤ ring_begin c.ring_size v.pieces → row_fault v c ≡ None
 no_fault v c all whole = no_bad_row v c all ∙ ap (λ b. cond b (Some v.pieces) None) (le-ltb (ring_begin c.ring_size v.pieces) (length c.ring_plane) whole)
+
+-- the test of the rows doesn't look at the corners
+pub any_corners : (v : OverlapVars) (c : Columns) (corner : List ℤ) → row_fault v (with_corners c corner) ≡ row_fault v c
+unfolding row_fault
+any_corners v c corner = refl
+
+-- the piece of a row has its corners from where those of the rows before it end
+pub piece_is : (c : Columns) (corner : List ℤ) (r : ℕ) → piece_at (with_corners c corner) r ≡ piece_with c r (drop (3 * ring_begin c.ring_size r) corner)
+unfolding piece_at
+piece_is c corner r = refl
 
 first_none : (pieces : ℕ) (c : Columns) (o : Option ℕ) → first_fault pieces c o ≡ None → o ≡ None
 first_none pieces c (Some r) h = absurd cc
@@ -85,6 +95,9 @@ some_rows n h = grind (arith, nat_tests)
 pub record HasFive (v : OverlapVars) (values : List (List ℤ)) : Type 0 where
   pub count : length values ≡ 5
   pub lens : HasLens v (columns_of values)
+
+pub row_lens : (v : OverlapVars) (c : Columns) (corner : List ℤ) → HasLens v c → HasRowLens v (with_corners c corner)
+row_lens v c corner h = record { source = h.source; target = h.target; ring_size = h.ring_size; ring_plane = h.ring_plane }
 
 five : (v : OverlapVars) (values : List (List ℤ)) → map length values ≡ v.pieces ∷ v.pieces ∷ v.pieces ∷ v.corners ∷ 3 * v.corners ∷ [] → HasFive v values
 five v [] h = absurd cc

@@ -32,5 +32,5 @@ pub use map_finding::find_map;
 pub use map_reading::read_map;
 pub use map_values::map_from;
 pub use reading::read_overlap;
-pub use rows::overlap_from;
+pub use rows::{OverlapRows, check_rows, overlap_from, piece_of_row, ring_len, rows_of};
 pub use vars::{MapVars, OverlapVars};

@@ -1,14 +1,14 @@
 // The pieces that the numbers of a file say, row by row.
-ghost use Rattle.std.specs.Prelude.{◌≡◌, ◌≤◌, ◌<◌, ◌+◌, ◌*◌, [], ◌∷◌, All, length, map, None, Ok, IfOk, IfErr, slice_index_or, unsigned_abs};
+ghost use Rattle.std.specs.Prelude.{◌≡◌, ◌≤◌, ◌<◌, ◌+◌, ◌*◌, ℤ, List, [], ◌∷◌, All, length, map, None, Ok, IfOk, IfErr, slice_index_or, unsigned_abs};
 ghost use Rattle.std.specs.List.{list_all, range_with_len};
 ghost use Rattle.exodus_mesh.specs.MeshValues.{rows_of};
 ghost use Rattle.clip.specs.Overlaps.{IsFaceCount};
-ghost use Rattle.remap_files.specs.Rows.{HasLens, IsGoodRing};
+ghost use Rattle.remap_files.specs.Rows.{HasRowLens, IsGoodRing, with_corners, piece_with};
 ghost use Rattle.nc_format.specs.Answers.{IsFaultOf};
 ghost use Rattle.remap_files.specs.declared.faults.FileFault.TheVariants.{NoMemory};
 ghost use Rattle.remap_files.specs.Answers.{IsOfRows};
 ghost use Rattle.remap_files.specs.OverlapNames.{is_within};
-ghost use Rattle.remap_files.specs.OverlapRows.{columns_of, exceeds, has_good_faces, ring_begin, ring_len, has_good_ring, is_good_row, piece_of, piece_at, row_fault, overlap_from, overlap_of, overlap_lens};
+ghost use Rattle.remap_files.specs.OverlapRows.{columns_of, exceeds, has_good_faces, ring_begin, ring_len, has_good_ring, is_good_row, piece_at, row_fault, overlap_of, overlap_lens};
 
 use crate::finding::is_within;
 use crate::{FileFault, OverlapVars};
@@ -19,17 +19,17 @@ use std::alloc::{AllocError, Global};
 use std::marker::Model;
 use vec_exact::Ints;
 
-// The numbers of the five variables, row by row.
+/// The numbers of the four variables that tell the rows of an overlap without their corners.
 #[derive(Drop)]
-struct OverlapRows<'a> {
+pub struct OverlapRows<'a> {
     source: &'a [i32],
     target: &'a [i32],
     ring_size: &'a [i32],
     ring_plane: &'a [i32],
-    corner: &'a [i32],
 }
 
 impl<'a> Model for OverlapRows<'a> {
+    ghost use Rattle.std.specs.Prelude.{[]};
     ghost use Rattle.remap_files.specs.OverlapRows.{Columns};
 
     ghost Value = { Columns };
@@ -39,11 +39,11 @@ impl<'a> Model for OverlapRows<'a> {
       target = r.target.now;
       ring_size = r.ring_size.now;
       ring_plane = r.ring_plane.now;
-      corner = r.corner.now;
+      corner = [];
     } };
 }
 
-// The numbers of variable k of the five, from 0.
+// The numbers of variable k, from 0.
 fn numbers<'a>(values: &'a [Ints], k: usize) -> &'a [i32]
     requires { k < length values.now }
     ensures { result.now ≡ slice_index_or values.now k [] }
@@ -52,16 +52,16 @@ fn numbers<'a>(values: &'a [Ints], k: usize) -> &'a [i32]
     &list.items
 }
 
-fn rows_of<'a>(values: &'a [Ints]) -> OverlapRows<'a>
-    requires { length values.now ≡ 5 }
-    ensures { result ≡ columns_of values.now }
+/// The rows that the first four lists tell: those of `source`, `target`, `ring_size` and `ring_plane`.
+pub fn rows_of<'a>(values: &'a [Ints]) -> OverlapRows<'a>
+    requires { 4 ≤ length values.now }
+    ensures { result ≡ with_corners (columns_of values.now) [] }
 {
     OverlapRows {
         source: numbers(values, 0),
         target: numbers(values, 1),
         ring_size: numbers(values, 2),
         ring_plane: numbers(values, 3),
-        corner: numbers(values, 4),
     }
 }
 
@@ -139,7 +139,7 @@ fn make_corners(alloc: Global, count: usize, numbers: &[i32]) -> Result<Corners,
 
 // Whether row r, from 0, whose ring begins at a place, is at no fault.
 fn is_good_row(vars: &OverlapVars, rows: &OverlapRows, r: usize, begin: usize) -> bool
-    requires lens { HasLens vars.now rows.now }
+    requires lens { HasRowLens vars.now rows.now }
     requires row { r < vars.now.pieces }
     requires begin { begin ≡ ring_begin rows.now.ring_size r }
     requires inside { begin ≤ length rows.now.ring_plane }
@@ -157,8 +157,8 @@ fn size_at(ring_size: &[i32], r: usize) -> usize
     ring_size[r].unsigned_abs() as usize
 }
 
-// The length of the ring of row r.
-fn ring_len(rows: &OverlapRows, r: usize) -> usize
+/// The length of the ring of row r, from 0.
+pub fn ring_len(rows: &OverlapRows, r: usize) -> usize
     requires { r < length rows.now.ring_size }
     ensures { result ≡ ring_len rows.now.ring_size r }
 {
@@ -172,25 +172,48 @@ fn plane_count(rows: &OverlapRows) -> usize
     rows.ring_plane.len()
 }
 
-// The piece of row r, whose ring begins at a place.
-#[tactic(auto, unfolding(crate::specs::OverlapRows::piece_at))]
-fn make_piece(
+/// The number of the first row at fault, from 1, or none, whatever the corners are: what `overlap_from`
+/// names by `Row`.
+pub fn check_rows(vars: &OverlapVars, rows: &OverlapRows) -> Option<u32>
+    requires lens { HasRowLens vars.now rows.now }
+    requires count { vars.now.pieces ≤ 8388608 }
+    ensures { (corner : List ℤ) → result ≡ row_fault vars.now (with_corners rows.now corner) }
+{
+    let mut begin = 0;
+    for number in 0..vars.pieces {
+        let r = number as usize;
+        if !is_good_row(vars, rows, r, begin) {
+            return Some(number + 1);
+        }
+        begin += ring_len(rows, r);
+    }
+    let planes = plane_count(rows);
+    if begin < planes {
+        return Some(vars.pieces);
+    }
+    None
+}
+
+/// The piece of row r, from 0, whose ring begins at a place of `ring_plane`. Its corners are the first
+/// of `corners`, three numbers for each.
+pub fn piece_of_row(
     alloc: Global,
-    vars: &OverlapVars,
     rows: &OverlapRows,
     r: usize,
     begin: usize,
+    corners: &[i32],
 ) -> Result<Piece, AllocError>
-    requires lens { HasLens vars.now rows.now }
-    requires row { r < vars.now.pieces }
+    requires source { r < length rows.now.source }
+    requires target { r < length rows.now.target }
+    requires ring_size { r < length rows.now.ring_size }
     requires begin { begin ≡ ring_begin rows.now.ring_size r }
     requires ring { IsGoodRing rows.now.ring_size rows.now.ring_plane r }
-    ensures { IfOk result (λ p. p ≡ piece_at rows.now r) }
+    requires corners { 3 * ring_len rows.now.ring_size r ≤ length corners.now }
+    ensures { IfOk result (λ p. p ≡ piece_with rows.now r corners.now) }
 {
     let len = ring_len(rows, r);
     let (_, planes) = rows.ring_plane.split_at(begin);
     let (ring, _) = planes.split_at(len);
-    let (_, corners) = rows.corner.split_at(3 * begin);
     Ok(Piece {
         a: rows.source[r].unsigned_abs(),
         b: rows.target[r].unsigned_abs(),
@@ -199,33 +222,27 @@ fn make_piece(
     })
 }
 
-// The pieces of all rows, or the first row at fault.
+// The pieces of all rows, none of which is at fault.
 fn make_pieces(
     alloc: Global,
     vars: &OverlapVars,
     rows: &OverlapRows,
-) -> Result<Vec<Piece>, FileFault>
-    requires lens { HasLens vars.now rows.now }
+    corners: &[i32],
+) -> Result<Vec<Piece>, AllocError>
+    requires lens { HasRowLens vars.now rows.now }
+    requires corners { length corners.now ≡ 3 * vars.now.corners }
     requires count { vars.now.pieces ≤ 8388608 }
-    ensures good { IfOk result (λ _. row_fault vars.now rows.now ≡ None) }
-    ensures pieces { IfOk result (λ pieces.
-        pieces.items ≡ map (piece_at rows.now) (range_with_len 0 vars.now.pieces)) }
-    ensures fault { IfErr result (IsFaultOf NoMemory (overlap_from vars.now rows.now)) }
-    ensures of_rows { IfErr result IsOfRows }
+    requires good { row_fault vars.now rows.now ≡ None }
+    ensures { IfOk result (λ pieces. pieces.items
+        ≡ map (piece_at (with_corners rows.now corners.now)) (range_with_len 0 vars.now.pieces)) }
 {
     let mut pieces = Vec::with_capacity(alloc, vars.pieces as usize)?;
     let mut begin = 0;
     for number in 0..vars.pieces {
         let r = number as usize;
-        if !is_good_row(vars, rows, r, begin) {
-            return Err(FileFault::Row(number + 1));
-        }
-        pieces.push(make_piece(alloc, vars, rows, r, begin)?)?;
+        let (_, behind) = corners.split_at(3 * begin);
+        pieces.push(piece_of_row(alloc, rows, r, begin, behind)?)?;
         begin += ring_len(rows, r);
-    }
-    let planes = plane_count(rows);
-    if begin < planes {
-        return Err(FileFault::Row(vars.pieces));
     }
     Ok(pieces)
 }
@@ -264,7 +281,11 @@ pub fn overlap_from(
             },
         });
     }
-    let pieces = make_pieces(alloc, vars, &rows_of(values))?;
+    let rows = rows_of(values);
+    if let Some(row) = check_rows(vars, &rows) {
+        return Err(FileFault::Row(row));
+    }
+    let pieces = make_pieces(alloc, vars, &rows, numbers(values, 4))?;
     Ok(Overlap {
         faces_a: vars.faces_a,
         faces_b: vars.faces_b,

@@ -1,71 +1,59 @@
-use Rattle.std.proofs.Common.{◌≡◌, ◌<◌, ◌+◌, ◌++◌, ◌∷◌, [], ◌∙◌, ap, sym, map, length, false, true, inr, arith}
+use Rattle.std.proofs.Common.{◌≡◌, ◌<◌, ◌≤◌, ◌+◌, ◌*◌, ◌++◌, ◌∷◌, [], ◌∙◌, ap, sym, map, drop, length, arith, length-drop}
 use Rattle.std.specs.List.{range_with_len}
 use Rattle.std.proofs.lemmas.List.FromFn.{map-range_with_len_more}
-use Rattle.remap_files.specs.Rows.{IsGoodRing}
-use Rattle.remap_files.specs.OverlapRows.{ring_begin, ring_len, is_good_row, piece_at}
-use Rattle.remap_files.proofs.RowFaults.{AreGood, one_more_good, row_is_bad, rest_is_bad, no_fault, fault_is, next_begin, first_begin}
+use Rattle.remap_files.specs.Rows.{IsGoodRing, with_corners, piece_with}
+use Rattle.remap_files.specs.OverlapRows.{ring_begin, ring_len, piece_at}
+use Rattle.remap_files.proofs.RowFaults.{all_are_good, next_begin, first_begin, piece_is}
 use Rattle.remap_files.proofs.GoodRows.{row_ring}
 use Rattle.remap_files.proofs.rows.make_pieces.Goals as goal
 
 pub loop-number-init : goal.loop-number-init
 loop-number-init c = record {
-  good = λ k below. absurd (omega (arith, below));
   pieces = c.in_ok-pieces.ensures.items;
   begin = sym (first_begin c.args.rows.now.ring_size);
   inside = omega arith;
   small = omega arith;
 }
 
-pub returns-then-not-is_good_row-clause-fault : goal.returns-then-not-is_good_row-clause-fault
-returns-then-not-is_good_row-clause-fault c =
+pub piece_of_row-requires-clause-ring : goal.piece_of_row-requires-clause-ring
+piece_of_row-requires-clause-ring c =
     let v = c.args.vars.now in
     let columns = c.args.rows.now in
     let r = c.loop-number.number in
-    let bad : is_good_row v.faces_a v.faces_b columns r ≡ false = sym c.is_good_row.ensures ∙ c.if-not-is_good_row.true in
-    inr (fault_is v columns (r + 1) (row_is_bad v columns r c.loop-number-test.true c.loop-number.invariant.good bad))
+    row_ring v columns r (all_are_good v columns c.requires.good r c.loop-number-test.true)
 
-pub make_piece-requires-clause-ring : goal.make_piece-requires-clause-ring
-make_piece-requires-clause-ring c =
-    row_ring c.args.vars.now c.args.rows.now c.loop-number.number (sym c.is_good_row.ensures ∙ c.if-not-is_good_row.false)
+pub piece_of_row-requires-clause-corners : goal.piece_of_row-requires-clause-corners
+piece_of_row-requires-clause-corners c =
+    let v = c.args.vars.now in
+    let columns = c.args.rows.now in
+    let r = c.loop-number.number in
+    let g : IsGoodRing columns.ring_size columns.ring_plane r = row_ring v columns r (all_are_good v columns c.requires.good r c.loop-number-test.true) in
+    omega (arith, g.inside, c.loop-number.invariant.begin, c.requires.lens.ring_plane, c.requires.corners, c.split_at.ensures.back_len)
 
 pub overflow_add-begin : goal.overflow_add-begin
 overflow_add-begin c =
-    let g : IsGoodRing c.args.rows.now.ring_size c.args.rows.now.ring_plane c.loop-number.number =
-    row_ring c.args.vars.now c.args.rows.now c.loop-number.number (sym c.is_good_row.ensures ∙ c.if-not-is_good_row.false) in
+    let v = c.args.vars.now in
+    let columns = c.args.rows.now in
+    let r = c.loop-number.number in
+    let g : IsGoodRing columns.ring_size columns.ring_plane r = row_ring v columns r (all_are_good v columns c.requires.good r c.loop-number-test.true) in
     omega (arith, c.ring_len.ensures, g.greatest_size, c.loop-number.invariant.small, c.loop-number-test.true, c.requires.count)
 
 pub loop-number-preserved : goal.loop-number-preserved
 loop-number-preserved c =
     let v = c.args.vars.now in
     let columns = c.args.rows.now in
+    let corners = c.args.corners.now in
     let r = c.loop-number.number in
-    let good : is_good_row v.faces_a v.faces_b columns r ≡ true = sym c.is_good_row.ensures ∙ c.if-not-is_good_row.false in
-    let g : IsGoodRing columns.ring_size columns.ring_plane r = row_ring v columns r good in
+    let g : IsGoodRing columns.ring_size columns.ring_plane r = row_ring v columns r (all_are_good v columns c.requires.good r c.loop-number-test.true) in
     let there : r < length columns.ring_size = omega (arith, c.requires.lens.ring_size, c.loop-number-test.true) in
     let next : ring_begin columns.ring_size (r + 1) ≡ ring_begin columns.ring_size r + ring_len columns.ring_size r = next_begin columns.ring_size r there in
-    let more : map (piece_at columns) (range_with_len 0 (r + 1)) ≡ map (piece_at columns) (range_with_len 0 r) ++ piece_at columns r ∷ [] = map-range_with_len_more (piece_at columns) 0 r r (omega arith) in
+    let f = piece_at (with_corners columns corners) in
+    let behind : c.split_at.result.1.now ≡ drop (3 * ring_begin columns.ring_size r) corners = c.split_at.ensures.back ∙ ap (λ n. drop (3 * n) corners) c.loop-number.invariant.begin in
+    let piece : c.in_ok-piece_of_row.field-0 ≡ f r = c.in_ok-piece_of_row.ensures ∙ ap (piece_with columns r) behind ∙ sym (piece_is columns corners r) in
+    let more : map f (range_with_len 0 (r + 1)) ≡ map f (range_with_len 0 r) ++ f r ∷ [] = map-range_with_len_more f 0 r r (omega arith) in
     record {
-      good = one_more_good v columns r c.loop-number.invariant.good good;
-      pieces = c.in_ok-push.ensures.items ∙ ap (λ p. c.loop-number.pieces.items ++ p ∷ []) c.in_ok-make_piece.ensures ∙ ap (λ l. l ++ piece_at columns r ∷ []) c.loop-number.invariant.pieces ∙ sym more;
+      pieces = c.in_ok-push.ensures.items ∙ ap (λ p. c.loop-number.pieces.items ++ p ∷ []) piece ∙ ap (λ l. l ++ f r ∷ []) c.loop-number.invariant.pieces ∙ sym more;
       begin = omega (arith, next, c.loop-number.invariant.begin, c.ring_len.ensures);
       inside = omega (arith, g.inside, c.loop-number.invariant.begin, c.ring_len.ensures);
       small = omega (arith, g.greatest_size, c.loop-number.invariant.small, c.ring_len.ensures);
     }
-
-pub returns-then-begin-planes-clause-fault : goal.returns-then-begin-planes-clause-fault
-returns-then-begin-planes-clause-fault c =
-    let v = c.args.vars.now in
-    let columns = c.args.rows.now in
-    let at : c.loop-number.number ≡ v.pieces = omega (arith, c.loop-number-test.false, c.loop-number.auto.number-end) in
-    let all : AreGood v columns v.pieces = λ k below. c.loop-number.invariant.good k (omega (arith, at, below)) in
-    let begin : ring_begin columns.ring_size v.pieces ≡ c.loop-number.begin = ap (ring_begin columns.ring_size) (sym at) ∙ sym c.loop-number.invariant.begin in
-    inr (fault_is v columns v.pieces (rest_is_bad v columns all (omega (arith, begin, c.plane_count-planes.ensures, c.if-begin-planes.true))))
-
-pub returns-clause-good : goal.returns-clause-good
-returns-clause-good c =
-    let v = c.args.vars.now in
-    let columns = c.args.rows.now in
-    let at : c.loop-number.number ≡ v.pieces = omega (arith, c.loop-number-test.false, c.loop-number.auto.number-end) in
-    let all : AreGood v columns v.pieces = λ k below. c.loop-number.invariant.good k (omega (arith, at, below)) in
-    let begin : ring_begin columns.ring_size v.pieces ≡ c.loop-number.begin = ap (ring_begin columns.ring_size) (sym at) ∙ sym c.loop-number.invariant.begin in
-    no_fault v columns all (omega (arith, begin, c.plane_count-planes.ensures, c.if-begin-planes.false))
