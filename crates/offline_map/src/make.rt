@@ -17,7 +17,8 @@ use std::alloc::Global;
 fn put_pieces(maker: &mut MapMaker, pieces: &[Piece]) -> Result<(), MapFault>
     requires begun { maker.old.rows ≡ [] }
     requires count { length pieces.now ≤ 8388608 }
-    requires sound { All (IsSoundPiece (length maker.old.a.faces) (length maker.old.b.faces)) pieces.now }
+    requires sound { All (IsSoundPiece (length maker.old.a.faces) (length maker.old.b.faces))
+        pieces.now }
     ensures rows { OnOk result
         (maker.new ≡ record maker.old { rows = map row_of pieces.now }) }
     ensures right { OnOk result (All (IsRightPiece maker.old.a maker.old.b) pieces.now) }

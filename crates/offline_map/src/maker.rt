@@ -58,8 +58,8 @@ fn check_counts(a: &Mesh, b: &Mesh, faces_a: u32, faces_b: u32) -> Result<(), Ma
 }
 
 impl<'a> MapMaker<'a> {
-    /// A map of two meshes and an overlap with these face counts, to which no piece was put yet. Room
-    /// for the rows of so many pieces is taken at once.
+    /// A map of two meshes and an overlap with these face counts, to which no piece was put yet.
+    /// Room for the rows of so many pieces is taken at once.
     ///
     /// `CountsA` and `CountsB` name the counts that differ, those of the sources first.
     pub fn begin(
@@ -84,13 +84,15 @@ impl<'a> MapMaker<'a> {
         })
     }
 
-    /// Tests the next piece of the overlap against its two faces and puts its row behind the others.
+    /// Tests the next piece of the overlap against its two faces and puts its row behind the
+    /// others.
     ///
-    /// `Row` has the number of the piece, from 1, where its ring is not that of its two faces, or its
-    /// corners are not the grid corners of that ring. After an error no row was put.
+    /// `Row` has the number of the piece, from 1, where its ring is not that of its two faces, or
+    /// its corners are not the grid corners of that ring. After an error no row was put.
     pub fn put(&mut self, piece: &Piece) -> Result<(), MapFault>
         requires few { length self.old.rows < 8388608 }
-        requires sound { IsSoundPiece (length self.old.a.faces) (length self.old.b.faces) piece.now }
+        requires sound { IsSoundPiece (length self.old.a.faces) (length self.old.b.faces)
+            piece.now }
         ensures row { OnOk result (self.new ≡ with_piece self.old piece.now) }
         ensures right { OnOk result (IsRightPiece self.old.a self.old.b piece.now) }
         ensures fault { IfErr result (IsFaultOfPiece self.old piece.now) }
