@@ -1,2 +1,4 @@
 pub mod OneOverlap
+pub mod Reader
 pub mod Values
+pub mod Windowed

@@ -1,2 +1,3 @@
 pub mod OverlapFile
 pub mod Refusals
+pub mod Windows

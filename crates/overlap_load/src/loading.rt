@@ -26,7 +26,7 @@ use std::alloc::Global;
 use vec_exact::Ints;
 
 // The counts and the variables of an overlap in a header.
-fn named_vars(alloc: Global, file: &NcFile) -> Result<OverlapVars, OverlapRefusal>
+pub fn named_vars(alloc: Global, file: &NcFile) -> Result<OverlapVars, OverlapRefusal>
     requires { IsSound file.now }
     ensures found { IfOk result (λ vars. overlap_vars_in file.now ≡ Ok vars) }
     ensures refusal { IfErr result (IsOwn (HasHeadFault file.now)) }

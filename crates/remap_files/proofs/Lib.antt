@@ -1,8 +1,8 @@
 pub mod OverlapLength
 mod Triples
 mod FirstNot
-mod RowFaults
-mod GoodRows
+pub mod RowFaults
+pub mod GoodRows
 pub mod FoundOverlap
 pub mod ReadOverlaps
 mod RowsAgain
