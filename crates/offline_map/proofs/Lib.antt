@@ -1,4 +1,4 @@
 mod RightPieces
 pub mod FirstFaults
 pub mod Made
-mod Makings
+pub mod Makings
