@@ -1,6 +1,6 @@
 use Rattle.std.proofs.Common.{ℕ, ◌+◌, ◌++◌, ap, sym, ◌∙◌, arith}
 use Rattle.std.specs.List.{flat_map, range_with_len}
-use Rattle.gen_cs.proofs.Ranges.{flat_range_more}
+use Rattle.vec_exact.proofs.Ranges.{flat_range_more}
 use Rattle.mesh_partition.specs.Edges.{edges_of_face, edges_of}
 use Rattle.mesh_partition.proofs.edges.all_edges.Goals as goal
 

@@ -1,7 +1,7 @@
 use Rattle.std.proofs.Common.{rules, length, length-append, map, ap, arith}
 use Rattle.std.specs.List.{range_with_len}
 use Rattle.std.proofs.lemmas.List.FromFn.{length-map-range_with_len}
-use Rattle.gen_cs.proofs.Ranges.{map_behind}
+use Rattle.vec_exact.proofs.Ranges.{map_behind}
 use Rattle.mesh_partition.specs.Edges.{edge_at}
 use Rattle.mesh_partition.proofs.edges.push_edges.Goals as goal
 
