@@ -9,6 +9,7 @@ mod Keeping
 mod LaidOver
 mod MapAndData
 mod MapEnds
+mod MapMaking
 mod MapTexts
 pub mod Outcomes
 mod OwnOverlaps

@@ -7,6 +7,7 @@ pub mod Fields
 pub mod Inputs
 pub mod Lines
 pub mod MapFaults
+pub mod MapReading
 pub mod NameParts
 pub mod Outcome
 pub mod Promises

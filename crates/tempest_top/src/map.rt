@@ -1,15 +1,19 @@
 // The command that makes the map of an overlap.
-ghost use Rattle.std.specs.Prelude.{◌≡◌, ◌≤◌, ◌+◌, [], IfOk, IfErr, IfSome, OnOk, Some, length, string_bytes};
+ghost use Rattle.std.specs.Prelude.{◌≡◌, ◌≤◌, ◌+◌, ℕ, List, [], IfOk, IfErr, IfSome, OnOk, Some, length, string_bytes};
+ghost use Rattle.vec_exact.specs.declared.RawMesh.{RawMesh};
+ghost use Rattle.clip.specs.Overlaps.{OverlapParts};
+ghost use Rattle.offline_map.specs.Maps.{map_of};
+ghost use Rattle.offline_map.specs.MapFaults.{IsMappable};
+ghost use Rattle.overlap_load.specs.Windows.{IsRead, rest_bytes};
+ghost use Rattle.tempest_top.specs.MapReading.{IsMaking, IsWhole, IsPut, IsMapOfFile, IsNoMap, UnlessRefused, status_of_no_map, no_map_text};
 ghost use Rattle.vec_exact.specs.declared.limits.TheConstants.{MAX_FILE_LEN};
-ghost use Rattle.remap_io.specs.Folder.{OnFile};
 ghost use Rattle.remap_io.specs.Outside.{OnlyReads};
 ghost use Rattle.nc_write.specs.File.{file_of};
-ghost use Rattle.remap_load.specs.Kinds.{HasContent, IsFileRefusal, file_cost};
+ghost use Rattle.remap_load.specs.Kinds.{file_cost};
 ghost use Rattle.remap_files.specs.MapDocument.{map_document};
 ghost use Rattle.command_line.specs.declared.choices.Chosen.TheVariants.{OfflineMap as OfflineMapOf};
 ghost use Rattle.tempest_top.specs.Scene.{scene};
 ghost use Rattle.tempest_top.specs.Lines.{map_text, PutsText};
-ghost use Rattle.tempest_top.specs.Faults.{status_of, text_of};
 ghost use Rattle.tempest_top.specs.MapFaults.{overlap_words, IsMapText};
 ghost use Rattle.tempest_top.specs.Outcome.{IsOutcomeOfMap};
 ghost use Rattle.tempest_top.specs.Ends.{Comes};
@@ -19,42 +23,158 @@ use crate::Status;
 use crate::finish::{refuse_memory, write_then_text};
 use crate::inputs::{mesh_of, refuse_mesh};
 use crate::map_faults::{refuse_map, refuse_overlap_file};
-use clip::Overlap;
 use command_line::Text;
 use map_rows::Map;
 use mesh_check::Mesh;
 use nc_write::{EncFault, encode};
-use offline_map::make_map;
-use overlap_load::{OverlapRefusal, load_overlap};
+use offline_map::{MapFault, MapMaker};
+use overlap_load::{OverlapReader, OverlapRefusal, open_overlap};
 use remap_files::map_doc;
 use remap_io::{Files, Sink};
+use remap_load::FileRefusal;
 use std::alloc::Global;
 use vec_exact::NoMemory;
 
-// The overlap of an input file.
-fn overlap_of<F: Files>(
-    alloc: Global,
-    files: &mut F,
-    file: &Text,
-) -> Result<Overlap, OverlapRefusal>
-    ensures overlap { IfOk result (λ overlap. OnFile (F.seen files.old).folder file.now
-        (λ bytes. HasContent overlap_words.kind bytes overlap)) }
-    ensures refusal { IfErr result
-        (IsFileRefusal overlap_words.kind (F.seen files.old) (F.seen files.new) file.now) }
-    ensures reads { OnlyReads (F.seen files.old) (F.seen files.new) }
-    ensures asked { OnOk result (IfSome (F.seen files.old).folder (λ m. (F.seen files.new).taken
-        ≤ (F.seen files.old).taken + file_cost overlap_words.kind m file.now)) }
-{
-    load_overlap(alloc, files, file.text.as_str())
+/// Why no map was made of the overlap of a file.
+#[derive(Drop)]
+pub enum NoMap {
+    /// The file is refused.
+    File(OverlapRefusal),
+    /// The overlap has a fault as one of the two meshes.
+    Fault(MapFault),
 }
 
-// Refuses an input file that holds no overlap.
-fn refuse_overlap<E: Sink>(err: &mut E, file: &Text, why: OverlapRefusal) -> Status
-    ensures status { result ≡ status_of overlap_words why }
-    ensures line { PutsText (E.seen err.old) (E.seen err.new)
-        (text_of overlap_words file.now why) }
+// Puts the next piece of an overlap file to a map, and tells whether there was one.
+fn put_next<F: Files>(
+    alloc: Global,
+    files: &mut F,
+    name: &str,
+    reader: &mut OverlapReader,
+    maker: &mut MapMaker,
+) -> Result<bool, NoMap>
+    requires making { (a : RawMesh) × (b : RawMesh)
+        × IsMaking (F.seen files.old).folder name.now a b reader.old maker.old }
+    ensures put { (a b : RawMesh)
+        → IsMaking (F.seen files.old).folder name.now a b reader.old maker.old
+        → IfOk result
+        (IsPut (F.seen files.old).folder name.now a b reader.old reader.new maker.new) }
+    ensures why { (a b : RawMesh)
+        → IsMaking (F.seen files.old).folder name.now a b reader.old maker.old
+        → IfErr result (IsNoMap (F.seen files.old) (F.seen files.new) name.now a b) }
+    ensures reads { OnlyReads (F.seen files.old) (F.seen files.new) }
+    ensures asked { UnlessRefused result ((F.seen files.new).taken + rest_bytes reader.new
+        ≤ (F.seen files.old).taken + rest_bytes reader.old) }
 {
-    refuse_overlap_file(err, file.text.as_str(), why)
+    let next = match reader.next(alloc, files, name) {
+        Ok(next) => next,
+        Err(fault) => return Err(NoMap::File(FileRefusal::Load(fault))),
+    };
+    let Some(piece) = next else {
+        return Ok(false);
+    };
+    match maker.put(&piece) {
+        Ok(()) => Ok(true),
+        Err(fault) => Err(NoMap::Fault(fault)),
+    }
+}
+
+// Puts all pieces of an overlap file to a map, one after another.
+fn put_pieces<F: Files>(
+    alloc: Global,
+    files: &mut F,
+    name: &str,
+    reader: &mut OverlapReader,
+    maker: &mut MapMaker,
+) -> Result<(), NoMap>
+    requires making { (a : RawMesh) × (b : RawMesh)
+        × IsMaking (F.seen files.old).folder name.now a b reader.old maker.old }
+    ensures whole { (a b : RawMesh)
+        → IsMaking (F.seen files.old).folder name.now a b reader.old maker.old
+        → OnOk result (IsWhole (F.seen files.old).folder name.now a b maker.new) }
+    ensures why { (a b : RawMesh)
+        → IsMaking (F.seen files.old).folder name.now a b reader.old maker.old
+        → IfErr result (IsNoMap (F.seen files.old) (F.seen files.new) name.now a b) }
+    ensures reads { OnlyReads (F.seen files.old) (F.seen files.new) }
+    ensures asked { UnlessRefused result
+        ((F.seen files.new).taken ≤ (F.seen files.old).taken + rest_bytes reader.old) }
+{
+    'pieces: loop {
+        match put_next(alloc, files, name, reader, maker) {
+            Ok(true) => {}
+            Ok(false) => return Ok(()),
+            Err(why) => return Err(why),
+        }
+    }
+}
+
+// The map of the pieces that a reader gives, which was opened just now.
+fn map_of_pieces<F: Files>(
+    alloc: Global,
+    files: &mut F,
+    a: &Mesh,
+    b: &Mesh,
+    name: &str,
+    reader: OverlapReader,
+) -> Result<Map, NoMap>
+    requires read { IsRead (F.seen files.old).folder name.now reader [] }
+    ensures map { IfOk result (IsMapOfFile (F.seen files.old).folder name.now a.now b.now) }
+    ensures why { IfErr result
+        (IsNoMap (F.seen files.old) (F.seen files.new) name.now a.now b.now) }
+    ensures reads { OnlyReads (F.seen files.old) (F.seen files.new) }
+    ensures asked { UnlessRefused result
+        ((F.seen files.new).taken ≤ (F.seen files.old).taken + rest_bytes reader) }
+{
+    let mut reader = reader;
+    let faces_a = reader.source_faces();
+    let faces_b = reader.target_faces();
+    let count = reader.piece_count();
+    let mut maker = match MapMaker::begin(alloc, a, b, faces_a, faces_b, count) {
+        Ok(maker) => maker,
+        Err(fault) => return Err(NoMap::Fault(fault)),
+    };
+    match put_pieces(alloc, files, name, &mut reader, &mut maker) {
+        Ok(()) => {}
+        Err(why) => return Err(why),
+    }
+    drop(reader);
+    match maker.finish(alloc) {
+        Ok(map) => Ok(map),
+        Err(fault) => Err(NoMap::Fault(fault)),
+    }
+}
+
+// The map of the overlap of an input file. Of its pieces one stands in memory at a time.
+fn map_of_file<F: Files>(
+    alloc: Global,
+    files: &mut F,
+    a: &Mesh,
+    b: &Mesh,
+    name: &str,
+) -> Result<Map, NoMap>
+    ensures map { IfOk result (IsMapOfFile (F.seen files.old).folder name.now a.now b.now) }
+    ensures why { IfErr result
+        (IsNoMap (F.seen files.old) (F.seen files.new) name.now a.now b.now) }
+    ensures reads { OnlyReads (F.seen files.old) (F.seen files.new) }
+    ensures asked { UnlessRefused result (IfSome (F.seen files.old).folder (λ m.
+        (F.seen files.new).taken
+        ≤ (F.seen files.old).taken + file_cost overlap_words.kind m name.now)) }
+{
+    let reader = match open_overlap(alloc, files, name) {
+        Ok(reader) => reader,
+        Err(why) => return Err(NoMap::File(why)),
+    };
+    map_of_pieces(alloc, files, a, b, name, reader)
+}
+
+// Refuses an input file of whose overlap no map was made.
+fn refuse_no_map<E: Sink>(err: &mut E, file: &Text, why: NoMap) -> Status
+    ensures status { result ≡ status_of_no_map why }
+    ensures line { PutsText (E.seen err.old) (E.seen err.new) (no_map_text file.now why) }
+{
+    match why {
+        NoMap::File(refusal) => refuse_overlap_file(err, file.text.as_str(), refusal),
+        NoMap::Fault(fault) => refuse_map(err, file.text.as_str(), fault),
+    }
 }
 
 // The text that tells how many rows a map has, and how many faces the two meshes.
@@ -93,32 +213,23 @@ fn map_file(alloc: Global, map: Map) -> Result<(Vec<u8>, String), NoMemory>
     Ok((bytes, text))
 }
 
-// Writes the map of the overlap of the file `ov_mesh` to `file`. The meshes and the overlap are let
-// go when it is made.
+// Writes the map of an overlap to `file`.
 fn write_map<F: Files, O: Sink, E: Sink>(
     alloc: Global,
-    a: Mesh,
-    b: Mesh,
-    overlap: Overlap,
-    ov_mesh: &Text,
+    map: Map,
     file: &Text,
     files: &mut F,
     out: &mut O,
     err: &mut E,
 ) -> Status
-    ensures comes { Comes [] (IsMapText ov_mesh.now) (Some file.now)
-        (IsOutcomeOfMap a b overlap ov_mesh.now file.now)
+    ensures comes { (a b : RawMesh) (overlap : OverlapParts) (ov_mesh : List ℕ)
+        → IsMappable a b overlap → map ≡ map_of overlap
+        → Comes [] (IsMapText ov_mesh) (Some file.now)
+        (IsOutcomeOfMap a b overlap ov_mesh file.now)
         (scene (F.seen files.old) (O.seen out.old) (E.seen err.old))
         (scene (F.seen files.new) (O.seen out.new) (E.seen err.new)) result }
     ensures no_line { result ≡ Status.Done → err.new ≡ err.old }
 {
-    let map = match make_map(alloc, &a, &b, &overlap) {
-        Ok(map) => map,
-        Err(fault) => return refuse_map(err, ov_mesh.text.as_str(), fault),
-    };
-    drop(a);
-    drop(b);
-    drop(overlap);
     let Ok((bytes, text)) = map_file(alloc, map) else {
         return refuse_memory(err);
     };
@@ -127,8 +238,8 @@ fn write_map<F: Files, O: Sink, E: Sink>(
 
 /// `GenerateOfflineMap`: writes to `file` the map of the overlap in `ov_mesh`, which is one of the
 /// source mesh in `a` and the target mesh in `b`, and puts how many rows it has and how many faces
-/// the meshes. Each listed row is tested against both meshes; pairs that aren't listed are not looked
-/// for.
+/// the meshes. Each listed row is tested against both meshes, one after another, and none is kept
+/// in the form of the file; pairs that aren't listed are not looked for.
 pub fn generate_map<F: Files, O: Sink, E: Sink>(
     alloc: Global,
     a: &Text,
@@ -152,11 +263,11 @@ pub fn generate_map<F: Files, O: Sink, E: Sink>(
         Ok(mesh) => mesh,
         Err(why) => return refuse_mesh(err, b, why),
     };
-    let overlap = match overlap_of(alloc, files, ov_mesh) {
-        Ok(overlap) => overlap,
-        Err(why) => return refuse_overlap(err, ov_mesh, why),
+    let map = match map_of_file(alloc, files, &source, &target, ov_mesh.text.as_str()) {
+        Ok(map) => map,
+        Err(why) => return refuse_no_map(err, ov_mesh, why),
     };
-    write_map(
-        alloc, source, target, overlap, ov_mesh, file, files, out, err,
-    )
+    drop(source);
+    drop(target);
+    write_map(alloc, map, file, files, out, err)
 }

@@ -1,30 +1,20 @@
 use Rattle.std.proofs.Common.{rules, ◌≡◌, ◌∙◌, List, ℕ, refl, subst}
 use Rattle.tempest_top.specs.Scene.{scene}
-use Rattle.tempest_top.specs.Lines.{PutsText}
-use Rattle.tempest_top.specs.MapFaults.{map_fault_text}
 use Rattle.tempest_top.specs.Outcome.{written}
 use Rattle.tempest_top.specs.Ends.{Ends}
 use Rattle.tempest_top.proofs.Coming.{comes_stopped}
-use Rattle.tempest_top.proofs.MapEnds.{comes_unmapped, comes_mapped}
+use Rattle.tempest_top.proofs.MapEnds.{comes_mapped}
 use Rattle.tempest_top.proofs.map.write_map.Goals as goal
 
-pub returns-in-Err-clause-comes : goal.returns-in-Err-clause-comes
-returns-in-Err-clause-comes g c =
-    let before = scene (g.F.Files.seen c.args.files.now) (g.O.Sink.seen c.args.out.now) (g.E.Sink.seen c.args.err.now) in
-    let after = scene (g.F.Files.seen c.args.files.now) (g.O.Sink.seen c.args.out.now) (g.E.Sink.seen c.refuse_map.new.err) in
-    let name : c.as_str.result.now ≡ c.args.ov_mesh.now = search rules in
-    let put = subst (λ (file : List ℕ). PutsText before.err after.err (map_fault_text file c.in-Err.fault)) name c.refuse_map.ensures.line in
-    comes_unmapped _ _ _ _ _ before after c.in-Err.fault _ c.in-Err.ensures.fault refl refl c.refuse_map.ensures.status put
-
 pub returns-in_default-clause-comes : goal.returns-in_default-clause-comes
-returns-in_default-clause-comes g c =
+returns-in_default-clause-comes g c = λ a b overlap ov_mesh mappable is.
     comes_stopped _ _ _ _ (scene (g.F.Files.seen c.args.files.now) (g.O.Sink.seen c.args.out.now) (g.E.Sink.seen c.args.err.now)) (scene (g.F.Files.seen c.args.files.now) (g.O.Sink.seen c.args.out.now) (g.E.Sink.seen c.refuse_memory.new.err)) _ refl refl c.refuse_memory.ensures.status c.refuse_memory.ensures.line
 
 pub returns-clause-comes : goal.returns-clause-comes
-returns-clause-comes g c =
+returns-clause-comes g c = λ a b overlap ov_mesh mappable is.
     let before = scene (g.F.Files.seen c.args.files.now) (g.O.Sink.seen c.args.out.now) (g.E.Sink.seen c.args.err.now) in
     let after = scene (g.F.Files.seen c.write_then_text.new.files) (g.O.Sink.seen c.write_then_text.new.out) (g.E.Sink.seen c.write_then_text.new.err) in
-    let name : c.as_str-2.result.now ≡ c.args.file.now = search rules in
+    let name : c.as_str.result.now ≡ c.args.file.now = search rules in
     let ends = subst (λ (file : List ℕ). Ends (written (record { name = file; bytes = c.deref.result.now }) c.as_bytes.result.now before.files.folder) before after c.write_then_text.result) name c.write_then_text.ensures.ends in
-    let made = c.in-Ok-map_file.ensures in
-    comes_mapped _ _ _ c.in-Ok.map _ _ before after c.deref.result.now c.as_bytes.result.now _ c.in-Ok.ensures.accepted c.in-Ok.ensures.map made.short (c.deref.ensures.value ∙ made.bytes) (c.as_bytes.ensures.value ∙ made.text) c.write_then_text.ensures.no_reads ends
+    let made = c.in-Ok.ensures in
+    comes_mapped a b overlap c.args.map ov_mesh c.args.file.now before after c.deref.result.now c.as_bytes.result.now _ mappable is made.short (c.deref.ensures.value ∙ made.bytes) (c.as_bytes.ensures.value ∙ made.text) c.write_then_text.ensures.no_reads ends
