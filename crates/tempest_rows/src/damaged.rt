@@ -67,10 +67,10 @@ fn a_damaged_mesh_file_is_told(rt: HostRuntime) -> Result<(), Fail> {
         let mut row = with_files(rt.alloc(), &bytes)?;
         let status = row.go(&rt, rt.alloc(), WORDS)?;
         let line = format!(in rt.alloc(); "tempest: bad.g: {text}\n")?;
-        same_at(&rt, &status, &want, &text);
-        row.tells(&rt, line.as_bytes());
-        row.puts(&rt, b"");
-        row.holds(&rt, "o.g", None);
+        assert_eq!(rt; status, want, "at {text}");
+        assert_eq!(rt; row.err.bytes(), line.as_bytes());
+        assert_eq!(rt; row.out.bytes(), b"".as_slice());
+        assert_eq!(rt; row.files.get("o.g"), None);
     }
     Ok(())
 }
