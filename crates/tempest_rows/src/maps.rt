@@ -170,10 +170,10 @@ fn maps_are_refused(rt: HostRuntime) -> Result<(), Fail> {
         let files = format!(in alloc; "--ov_mesh {overlap} --out_map m.nc")?;
         let words = format!(in alloc; "GenerateOfflineMap {meshes} {files}")?;
         let line = format!(in alloc; "tempest: {text}\n")?;
-        same_at(&rt, &row.go(&rt, alloc, words.as_str())?, &want, &text);
-        row.tells(&rt, line.as_bytes());
-        row.puts(&rt, b"");
-        row.holds(&rt, "m.nc", None);
+        assert_eq!(rt; row.go(&rt, alloc, words.as_str())?, want, "at {text}");
+        assert_eq!(rt; row.err.bytes(), line.as_bytes());
+        assert_eq!(rt; row.out.bytes(), b"".as_slice());
+        assert_eq!(rt; row.files.get("m.nc"), None);
     }
     Ok(())
 }
