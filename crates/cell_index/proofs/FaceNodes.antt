@@ -1,52 +1,17 @@
--- What the loops over the nodes of a face keep.
-use Rattle.std.proofs.Common.{◌≡◌, ℕ, ◌+◌, ◌<◌, ◌≤◌, ℤ, pos, ◌+ℤ◌, ◌-ℤ◌, ◌<ℤ◌, neg_ℤ, ◌-◌, int_lt, unsigned_abs, to_z, of_z, arith, ap, refl, ◌∙◌, subst, Bool, true, false, ◌&&◌, ◌||◌, List, length, add-one, None, Some, if◌then◌else◌}
-use Rattle.std.proofs.lemmas.Int.{ints}
-use mir.Syntax.{w32}
+-- What the loop over the nodes of a face keeps, and the box by its cases.
+use Rattle.std.proofs.Common.{◌≡◌, ℕ, ◌+◌, ◌<◌, ℤ, pos, ◌-ℤ◌, ◌<ℤ◌, neg_ℤ, ◌-◌, int_lt, ap, refl, ◌∙◌, subst, true, false, List, length, add-one, None, Some, if◌then◌else◌}
 use Rattle.vec_exact.specs.declared.Vec3.{Vec3}
 use Rattle.vec_exact.specs.declared.panels.Panel.{Panel}
-use Rattle.cell_index.specs.Box.{every, least, greatest, seen, beyond_u_end, beyond_u_start, beyond_v_end, beyond_v_start, is_beyond, is_in_front, u_floor, v_floor, range_of, is_empty, whole_panel, box_of}
+use Rattle.cell_index.specs.Box.{least, greatest, seen, is_beyond, is_in_front, u_floor, v_floor, range_of, is_empty, whole_panel, box_of}
 use Rattle.cell_index.specs.declared.CellBox.{CellBox}
 use Rattle.cell_index.proofs.Places.{lt_true, every_at}
 use Rattle.std.specs.Int.{int_min, int_max}
-
--- the four tests on the first t nodes
-pub record BeyondSoFar (vs : List Vec3) (p : Panel) (t : ℕ) (bu au bv av : Bool) : Type 0 where
-  pub beyond_u_end : bu ≡ every (λ i. beyond_u_end (seen vs p i)) t
-  pub beyond_u_start : au ≡ every (λ i. beyond_u_start (seen vs p i)) t
-  pub beyond_v_end : bv ≡ every (λ i. beyond_v_end (seen vs p i)) t
-  pub beyond_v_start : av ≡ every (λ i. beyond_v_start (seen vs p i)) t
-
-pub every_more : (f : ℕ → Bool) (n : ℕ) → every f (n + 1) ≡ (every f n && f n)
-every_more f n = rw (add-one) refl
 
 pub least_more : (f : ℕ → ℤ) (n : ℕ) → least f (n + 1) ≡ int_min (least f n) (f (n + 1))
 least_more f n = rw (add-one) refl
 
 pub greatest_more : (f : ℕ → ℤ) (n : ℕ) → greatest f (n + 1) ≡ int_max (greatest f n) (f (n + 1))
 greatest_more f n = rw (add-one) refl
-
-pub every_step : (f : ℕ → Bool) (n : ℕ) (b x : Bool) → b ≡ every f n → x ≡ f n → (b && x) ≡ every f (n + 1)
-every_step f n b x p q = cc (every_more f n, p, q)
-
--- differences and sums of numbers that are written and read
-pub less_read : (w s : ℤ) → unsigned_abs w ≤ 262143 → unsigned_abs s ≤ 262143 → to_z w32 (of_z w32 (to_z w32 (of_z w32 w) -ℤ to_z w32 (of_z w32 s))) ≡ w -ℤ s
-less_read w s p q = omega (arith, ints)
-
-pub more_read : (w s : ℤ) → unsigned_abs w ≤ 262143 → unsigned_abs s ≤ 262143 → to_z w32 (of_z w32 (to_z w32 (of_z w32 w) +ℤ to_z w32 (of_z w32 s))) ≡ w +ℤ s
-more_read w s p q = omega (arith, ints)
-
-pub number_read : (w : ℤ) → unsigned_abs w ≤ 262143 → to_z w32 (of_z w32 w) ≡ w
-number_read w p = omega (arith, ints)
-
-pub beyond_all : (vs : List Vec3) (p : Panel) (t : ℕ) (bu au bv av : Bool) → BeyondSoFar vs p t bu au bv av → t ≡ length vs → (bu || au || bv || av) ≡ is_beyond vs p
-unfolding is_beyond
-beyond_all vs p t bu au bv av h e =
-    let at : BeyondSoFar vs p (length vs) bu au bv av = subst (λ (n : ℕ). BeyondSoFar vs p n bu au bv av) e h in
-    let a = at.beyond_u_end in let b = at.beyond_u_start in let c = at.beyond_v_end in let d = at.beyond_v_start in cc
-
-pub front_all : (vs : List Vec3) (p : Panel) (t : ℕ) (b : Bool) → b ≡ every (λ i. int_lt (pos 0) (seen vs p i).w) t → t ≡ length vs → b ≡ is_in_front vs p
-unfolding is_in_front
-front_all vs p t b h e = h ∙ ap (every (λ i. int_lt (pos 0) (seen vs p i).w)) e
 
 -- the least and greatest floors of the nodes 0 to t
 pub record FloorsSoFar (vs : List Vec3) (p : Panel) (k : ℤ) (t : ℕ) (b : CellBox) : Type 0 where

@@ -66,3 +66,6 @@ lt_true a b h = grind (arith, ints)
 
 pub lt_false : (a b : ℤ) → b ≤ℤ a → int_lt a b ≡ false
 lt_false a b h = grind (arith, ints)
+
+pub lt_from : (a b : ℤ) → a <ℤ b → int_lt a b ≡ true
+lt_from a b h = grind (arith, ints)

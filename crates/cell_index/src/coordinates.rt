@@ -2,6 +2,7 @@
 ghost use Rattle.std.specs.Prelude.{◌≡◌, ◌<◌, ◌≤◌, length, unsigned_abs};
 ghost use Rattle.vec_exact.specs.Size.{Is18};
 ghost use Rattle.vec_exact.specs.Face.{vector_of};
+ghost use Rattle.vec_exact.specs.Cycle.{vector_at};
 ghost use Rattle.mesh_check.specs.Mesh.{corners_of};
 ghost use Rattle.cell_index.specs.Box.{seen_from, seen};
 
@@ -42,6 +43,17 @@ pub(crate) fn corner_count(mesh: &Mesh, face: u32) -> u32
     edge_count(mesh, face)
 }
 
+// The face's node at place t, which counts from 0.
+pub(crate) fn corner(mesh: &Mesh, face: u32, t: u32) -> [i32; 3]
+    requires face { (1 ≤ face) × (face ≤ length mesh.now.faces) }
+    requires place { t < length (corners_of mesh.now face) }
+    requires small { t < 16 }
+    ensures value { vector_of result ≡ vector_at (corners_of mesh.now face) t }
+    ensures size { Is18 (vector_of result) }
+{
+    node(mesh, face, t + 1)
+}
+
 // The coordinates of the face's node at place t, which counts from 0.
 pub(crate) fn see(mesh: &Mesh, face: u32, panel: Panel, t: u32) -> Coordinates
     requires face { (1 ≤ face) × (face ≤ length mesh.now.faces) }
@@ -52,5 +64,5 @@ pub(crate) fn see(mesh: &Mesh, face: u32, panel: Panel, t: u32) -> Coordinates
     ensures u_size { unsigned_abs result.u ≤ 262143 }
     ensures v_size { unsigned_abs result.v ≤ 262143 }
 {
-    coordinates_of(panel, node(mesh, face, t + 1))
+    coordinates_of(panel, corner(mesh, face, t))
 }

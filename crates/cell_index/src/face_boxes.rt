@@ -2,44 +2,15 @@
 ghost use Rattle.std.specs.Prelude.{◌≡◌, ◌<◌, ◌≤◌, pos, ◌*ℤ◌, ◌≤ℤ◌, ◌<ℤ◌, length, unsigned_abs, IsTrue, if◌then◌else◌};
 ghost use Rattle.std.specs.Int.{int_min, int_max};
 ghost use Rattle.mesh_check.specs.Mesh.{corners_of};
-ghost use Rattle.cell_index.specs.Box.{is_beyond, is_in_front, floor_of, u_floor, v_floor, range_of, is_empty, whole_panel, box_of, boxes};
+ghost use Rattle.cell_index.specs.Box.{is_in_front, floor_of, u_floor, v_floor, range_of, is_empty, whole_panel, box_of, boxes};
+ghost use Rattle.cell_index.specs.Extents.{AreSpans};
 ghost use Rattle.cell_index.specs.Fineness.{fineness_of};
 
 use crate::coordinates::{corner_count, see};
+use crate::spans::{Spans, lies_beyond, lies_in_front, spans_of};
 use crate::{Boxes, CellBox};
 use mesh_check::Mesh;
 use vec_exact::Panel;
-
-// Whether one of the four sides of the panel has the whole face beyond it.
-fn lies_beyond(mesh: &Mesh, face: u32, panel: Panel) -> bool
-    requires face { (1 ≤ face) × (face ≤ length mesh.now.faces) }
-    ensures { result ≡ is_beyond (corners_of mesh.now face) panel }
-{
-    let mut beyond_u_end = true;
-    let mut beyond_u_start = true;
-    let mut beyond_v_end = true;
-    let mut beyond_v_start = true;
-    for t in 0..corner_count(mesh, face) {
-        let at = see(mesh, face, panel, t);
-        beyond_u_end = beyond_u_end & (at.w - at.u <= 0);
-        beyond_u_start = beyond_u_start & (at.w + at.u <= 0);
-        beyond_v_end = beyond_v_end & (at.w - at.v <= 0);
-        beyond_v_start = beyond_v_start & (at.w + at.v <= 0);
-    }
-    beyond_u_end | beyond_u_start | beyond_v_end | beyond_v_start
-}
-
-// Whether all nodes are in front of the panel.
-fn lies_in_front(mesh: &Mesh, face: u32, panel: Panel) -> bool
-    requires face { (1 ≤ face) × (face ≤ length mesh.now.faces) }
-    ensures { result ≡ is_in_front (corners_of mesh.now face) panel }
-{
-    let mut front = true;
-    for t in 0..corner_count(mesh, face) {
-        front = front & (0 < see(mesh, face, panel, t).w);
-    }
-    front
-}
 
 // `k s / w` rounded down.
 fn floor_at(k: i32, s: i32, w: i32) -> i32
@@ -161,16 +132,17 @@ fn unless_empty(fitted: CellBox) -> Option<CellBox>
 }
 
 // The box of a face on one panel.
-fn box_on(mesh: &Mesh, face: u32, panel: Panel, k: i32) -> Option<CellBox>
+fn box_on(mesh: &Mesh, face: u32, spans: &Spans, panel: Panel, k: i32) -> Option<CellBox>
     requires face { (1 ≤ face) × (face ≤ length mesh.now.faces) }
+    requires spans { AreSpans (corners_of mesh.now face) spans.now }
     requires least { pos 1 ≤ℤ k }
     requires greatest { k ≤ℤ pos 256 }
     ensures { result ≡ box_of (corners_of mesh.now face) panel k }
 {
-    if lies_beyond(mesh, face, panel) {
+    if lies_beyond(spans, panel) {
         return None;
     }
-    if lies_in_front(mesh, face, panel) {
+    if lies_in_front(spans, panel) {
         unless_empty(fit(mesh, face, panel, k))
     } else {
         Some(whole(k))
@@ -188,14 +160,15 @@ pub fn boxes_of(mesh: &Mesh, face: u32, k: i32) -> Boxes
     requires greatest { k ≤ℤ pos 256 }
     ensures { result.panel ≡ boxes (corners_of mesh.now face) k }
 {
+    let spans = spans_of(mesh, face);
     Boxes {
         panel: [
-            box_on(mesh, face, Panel::PlusX, k),
-            box_on(mesh, face, Panel::PlusY, k),
-            box_on(mesh, face, Panel::MinusX, k),
-            box_on(mesh, face, Panel::MinusY, k),
-            box_on(mesh, face, Panel::PlusZ, k),
-            box_on(mesh, face, Panel::MinusZ, k),
+            box_on(mesh, face, &spans, Panel::PlusX, k),
+            box_on(mesh, face, &spans, Panel::PlusY, k),
+            box_on(mesh, face, &spans, Panel::MinusX, k),
+            box_on(mesh, face, &spans, Panel::MinusY, k),
+            box_on(mesh, face, &spans, Panel::PlusZ, k),
+            box_on(mesh, face, &spans, Panel::MinusZ, k),
         ],
     }
 }

@@ -13,6 +13,7 @@ mod kept;
 mod laws;
 mod search;
 mod shared_cells;
+mod spans;
 #[cfg(test)]
 mod tests;
 

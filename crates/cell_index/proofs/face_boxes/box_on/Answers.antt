@@ -7,19 +7,26 @@ use Rattle.cell_index.proofs.FaceNodes.{box_beyond, box_fitted, box_whole}
 use Rattle.cell_index.proofs.face_boxes.box_on.Goals as goal
 
 pub returns-then-lies_beyond : goal.returns-then-lies_beyond
-returns-then-lies_beyond c = box_beyond (corners_of c.args.mesh.now c.args.face) c.args.panel c.args.k (sym c.lies_beyond.ensures ∙ c.if-lies_beyond.true)
+returns-then-lies_beyond c =
+    let vs = corners_of c.args.mesh.now c.args.face in
+    box_beyond vs c.args.panel c.args.k (sym (c.lies_beyond.ensures vs c.requires.spans) ∙ c.if-lies_beyond.true)
+
+pub fit-requires-clause-front : goal.fit-requires-clause-front
+fit-requires-clause-front c = sym (c.lies_in_front.ensures (corners_of c.args.mesh.now c.args.face) c.requires.spans) ∙ c.if-lies_in_front.true
 
 pub returns-then-lies_in_front : goal.returns-then-lies_in_front
 returns-then-lies_in_front c =
     let fk = c.ranges.k in
+    let vs = corners_of c.args.mesh.now c.args.face in
     let e = simp to_z-of_z at c.fit.ensures in
     c.unless_empty.ensures
     ∙ ap (λ (b : CellBox). if is_empty b then None else Some b) e
-    ∙ box_fitted (corners_of c.args.mesh.now c.args.face) c.args.panel c.args.k (sym c.lies_beyond.ensures ∙ c.if-lies_beyond.false) (sym c.lies_in_front.ensures ∙ c.if-lies_in_front.true)
+    ∙ box_fitted vs c.args.panel c.args.k (sym (c.lies_beyond.ensures vs c.requires.spans) ∙ c.if-lies_beyond.false) (sym (c.lies_in_front.ensures vs c.requires.spans) ∙ c.if-lies_in_front.true)
 
 pub returns-else-lies_in_front : goal.returns-else-lies_in_front
 returns-else-lies_in_front c =
     let fk = c.ranges.k in
+    let vs = corners_of c.args.mesh.now c.args.face in
     let e = simp to_z-of_z at c.whole.ensures in
     ap (λ (b : CellBox). Some b) e
-    ∙ box_whole (corners_of c.args.mesh.now c.args.face) c.args.panel c.args.k (sym c.lies_beyond.ensures ∙ c.if-lies_beyond.false) (sym c.lies_in_front.ensures ∙ c.if-lies_in_front.false)
+    ∙ box_whole vs c.args.panel c.args.k (sym (c.lies_beyond.ensures vs c.requires.spans) ∙ c.if-lies_beyond.false) (sym (c.lies_in_front.ensures vs c.requires.spans) ∙ c.if-lies_in_front.false)
