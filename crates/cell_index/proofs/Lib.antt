@@ -8,6 +8,7 @@ pub mod Fair
 pub mod Sharing
 pub mod Agree
 pub mod Fillings
+pub mod Added
 pub mod Searches
 pub mod FirstBoxes
 pub mod Ascending

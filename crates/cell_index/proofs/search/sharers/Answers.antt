@@ -7,8 +7,8 @@ use Rattle.cell_index.specs.Kept.{Takes, InPart}
 use Rattle.cell_index.proofs.Searches.{found_members}
 use Rattle.cell_index.proofs.search.sharers.Goals as goal
 
-pub take_cells-requires-clause-fair : goal.take_cells-requires-clause-fair
-take_cells-requires-clause-fair c = let fk = c.ranges.k in simp to_z-of_z c.requires.fair
+pub gather_cells-requires-clause-fair : goal.gather_cells-requires-clause-fair
+gather_cells-requires-clause-fair c = let fk = c.ranges.k in simp to_z-of_z c.requires.fair
 
 pub returns-clause-members : goal.returns-clause-members
 returns-clause-members c =
@@ -18,13 +18,13 @@ returns-clause-members c =
     let cells = c.args.cells.now in
     let none = c.clear.new.self.items in
     let some = c.take_part.new.found.items in
-    let found = c.take_cells.new.found.items in
+    let found = c.gather_cells.new.found.items in
     let sorted = c.sort_unstable.new.self.items in
     let final = c.dedup.new.self.items in
     let n = c.len.result in
     let l : length cells.large.items ≤ n = search rules in
     let t = subst (λ (z : List ℕ). Takes own bs none some (InPart z 0 n)) c.deref.ensures.value c.in_ok-take_part.ensures in
-    let u = simp to_z-of_z at c.in_ok-take_cells.ensures in
+    let u = simp to_z-of_z at c.in_ok-gather_cells.ensures in
     found_members c.args.k own bs cells none some found sorted final n c.requires.complete c.requires.fair c.clear.ensures.items l t u c.sort_unstable.ensures.permutation (dedup_is eqb sorted final c.dedup.ensures.filtered)
 
 pub returns-clause-ascending : goal.returns-clause-ascending

@@ -1,0 +1,12 @@
+use Rattle.std.proofs.Common.{arith, refl, get_or}
+use Rattle.cell_index.proofs.Searches.{gathers_start, gathers_more, one_tested}
+use Rattle.cell_index.proofs.search.gather_part.Goals as goal
+
+pub loop-t-init : goal.loop-t-init
+loop-t-init c = gathers_start c.args.found.now.items c.args.faces.now c.args.from
+
+pub loop-t-preserved : goal.loop-t-preserved
+loop-t-preserved c =
+    let faces = c.args.faces.now in
+    let t = c.loop-t.t in
+    gathers_more c.args.found.now.items c.loop-t.found.items c.put_if.new.list.items faces c.args.from t (get_or faces t 0) _ (omega arith) c.loop-t.invariant refl (one_tested (get_or faces t 0)) c.in_ok-put_if.ensures

@@ -1,6 +1,0 @@
-use Rattle.cell_index.specs.Kept.{Takes}
-use Rattle.cell_index.proofs.Searches.{InRows}
-use Rattle.cell_index.proofs.search.take_range.Given as goal
-
-abbrev pub invariant-loop-x : goal.invariant-loop-x
-invariant-loop-x l = Takes l.own.panel l.all l.fn.found.items l.found.items (InRows l.cells l.s l.panel l.fn.r l.x)
