@@ -14,8 +14,6 @@ mod laws;
 mod search;
 mod shared_cells;
 mod spans;
-#[cfg(test)]
-mod tests;
 
 pub use face_boxes::{boxes_of, fineness};
 pub use index::{Index, build, candidates, find_candidates};

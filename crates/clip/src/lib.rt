@@ -13,8 +13,6 @@ mod pairs;
 mod pieces;
 mod rings;
 mod sides;
-#[cfg(test)]
-mod tests;
 
 pub use columns::{Columns, PieceList, Place};
 pub use forms::{CornerForm, corner_form};

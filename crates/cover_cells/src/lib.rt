@@ -9,8 +9,6 @@ mod near;
 mod planes;
 mod sides;
 mod targets;
-#[cfg(test)]
-mod tests;
 
 pub use cells::{Cell, CellPlane, Cells};
 pub use cutting::cut_cells;

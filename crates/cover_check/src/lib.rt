@@ -8,8 +8,6 @@ mod counting;
 mod laws;
 mod parts;
 mod rest;
-#[cfg(test)]
-mod tests;
 
 pub use counting::{CoverCount, coverage};
 pub use laws::law_one_cover_count;

@@ -3,6 +3,7 @@ ghost use Rattle.std.specs.Prelude.{◌≤◌, length, IsTrue, unsigned_abs};
 ghost use Rattle.vec_exact.specs.Size.{Is75};
 ghost use Rattle.cell_index.specs.IndexOf.{IsIndexOf};
 
+use crate::compare::{same, same_of};
 use crate::meshes::{Gaps, Made, mesh_of, without};
 use cell_index::{Index, build};
 use cover_check::{CoverCount, coverage, remainder, uncovered};
@@ -151,7 +152,8 @@ fn count_by_targets(rt: &impl Abort, alloc: Global, a: &Mesh, b: &Mesh) -> Cover
     count
 }
 
-fn count_at_once(rt: &impl Abort, alloc: Global, a: &Mesh, b: &Mesh) -> CoverCount {
+/// How many targets are covered, by one call.
+pub(crate) fn count_at_once(rt: &impl Abort, alloc: Global, a: &Mesh, b: &Mesh) -> CoverCount {
     let Ok(count) = coverage(alloc, a, b) else {
         panic!(rt; "no memory");
     };
@@ -161,7 +163,7 @@ fn count_at_once(rt: &impl Abort, alloc: Global, a: &Mesh, b: &Mesh) -> CoverCou
 // Both ways to count agree.
 fn count(rt: &impl Abort, alloc: Global, a: &Mesh, b: &Mesh) -> CoverCount {
     let count = count_at_once(rt, alloc, a, b);
-    assert_eq!(rt; count_by_targets(rt, alloc, a, b), count);
+    same(rt, &count_by_targets(rt, alloc, a, b), &count);
     count
 }
 
@@ -197,7 +199,7 @@ fn assert_covers(rt: &impl Abort, alloc: Global, made: Made) {
             covered: face_count(&b),
             first: 0,
         };
-        assert_eq!(rt; count(rt, alloc, &a, &b), all, "{made:?} {other:?}");
+        same_of(rt, &count(rt, alloc, &a, &b), &all, &(made, other));
     }
 }
 
@@ -220,7 +222,7 @@ fn assert_covers_rest(rt: &impl Abort, alloc: Global, mesh: &Mesh, gaps: Gaps) {
         covered: kept(face_count(mesh), gaps),
         first: gaps.first.saturating_add(1),
     };
-    assert_eq!(rt; count(rt, alloc, &rest, mesh), want, "{gaps:?}");
+    same_of(rt, &count(rt, alloc, &rest, mesh), &want, &gaps);
 }
 
 #[test]

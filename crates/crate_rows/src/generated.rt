@@ -1,12 +1,13 @@
 // Quarter turns, and the smallest generated meshes, node by node and face by face.
+use crate::compare::{same, same_list};
 use mesh_check::{face_count, node_count, raw};
 use std::test::Fail;
 
 #[test]
 fn quarter_turns(rt: HostRuntime) {
-    assert_eq!(rt; gen_rll::trig(0, 8), (1073741824, 0));
-    assert_eq!(rt; gen_rll::trig(1, 4), (0, 1073741824));
-    assert_eq!(rt; gen_rll::trig(-1, 4), (0, -1073741824));
+    same(&rt, &gen_rll::trig(0, 8), &(1073741824, 0));
+    same(&rt, &gen_rll::trig(1, 4), &(0, 1073741824));
+    same(&rt, &gen_rll::trig(-1, 4), &(0, -1073741824));
 }
 
 #[test]
@@ -25,7 +26,7 @@ fn the_octahedron(rt: HostRuntime) -> Result<(), Fail> {
         [0, -131072, 0],
         [0, 0, 131072],
     ];
-    assert_eq!(rt; octahedron.nodes.items.as_slice(), corners.as_slice());
+    same_list(&rt, octahedron.nodes.items.as_slice(), &corners);
     let sides = [
         [1, 3, 2],
         [1, 4, 3],
@@ -36,9 +37,9 @@ fn the_octahedron(rt: HostRuntime) -> Result<(), Fail> {
         [4, 5, 6],
         [5, 2, 6],
     ];
-    assert_eq!(rt; octahedron.faces.items.len(), 8);
+    same(&rt, &octahedron.faces.items.len(), &8);
     for (side, face) in sides.iter().zip(&octahedron.faces.items) {
-        assert_eq!(rt; face.items.as_slice(), side.as_slice());
+        same_list(&rt, face.items.as_slice(), side);
     }
     Ok(())
 }
@@ -48,7 +49,7 @@ fn the_icosahedron(rt: HostRuntime) -> Result<(), Fail> {
     let Ok(mesh) = gen_ico::make(rt.alloc(), 1, false) else {
         panic!(rt; "no mesh");
     };
-    assert_eq!(rt; (face_count(&mesh), node_count(&mesh)), (20, 12));
+    same(&rt, &(face_count(&mesh), node_count(&mesh)), &(20, 12));
     let Ok(icosahedron) = raw(rt.alloc(), &mesh) else {
         panic!(rt; "no memory");
     };
@@ -58,8 +59,8 @@ fn the_icosahedron(rt: HostRuntime) -> Result<(), Fail> {
     ) else {
         panic!(rt; "no face or no node");
     };
-    assert_eq!(rt; face.items.as_slice(), [1, 3, 2].as_slice());
-    assert_eq!(rt; *node, [-131072, 0, -81007]);
+    same_list(&rt, face.items.as_slice(), &[1, 3, 2]);
+    same(&rt, node, &[-131072, 0, -81007]);
     Ok(())
 }
 
@@ -68,12 +69,12 @@ fn the_dodecahedron(rt: HostRuntime) -> Result<(), Fail> {
     let Ok(mesh) = gen_ico::make(rt.alloc(), 1, true) else {
         panic!(rt; "no mesh");
     };
-    assert_eq!(rt; (face_count(&mesh), node_count(&mesh)), (12, 20));
+    same(&rt, &(face_count(&mesh), node_count(&mesh)), &(12, 20));
     let Ok(dodecahedron) = raw(rt.alloc(), &mesh) else {
         panic!(rt; "no memory");
     };
     for face in &dodecahedron.faces.items {
-        assert_eq!(rt; face.items.len(), 5);
+        same(&rt, &face.items.len(), &5);
     }
     Ok(())
 }

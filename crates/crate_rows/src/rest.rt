@@ -2,9 +2,10 @@
 ghost use Rattle.std.specs.Prelude.{◌≤◌, length};
 ghost use Rattle.vec_exact.specs.Size.{Is75};
 
+use crate::compare::same_of;
 use crate::coverage::{direction, index, is_in_closure, is_inside, is_short};
-use crate::faces::one_face;
-use crate::meshes::{Made, accepted, mesh_of};
+use crate::meshes::{Made, mesh_of};
+use crate::single_faces::{OCTANT, face_mesh};
 use cover_cells::{Cell, CellPlane, Cells};
 use cover_check::remainder;
 use mesh_check::{Mesh, edge_count, face_count, plane};
@@ -13,11 +14,7 @@ use std::process::Abort;
 use vec_exact::{Sign, Vec3, side};
 
 fn octant(rt: &impl Abort, alloc: Global) -> Mesh {
-    let nodes = [[1, 0, 0], [0, 1, 0], [0, 0, 1]];
-    let Ok(raw) = one_face(alloc, &nodes, &[1, 2, 3]) else {
-        panic!(rt; "no memory");
-    };
-    accepted(rt, alloc, raw)
+    face_mesh(rt, alloc, &OCTANT, &[1, 2, 3])
 }
 
 // Whether the plane p, of an edge of this face, is positive on d.
@@ -80,7 +77,7 @@ fn the_rest_of_a_face_is_in_cells(rt: HostRuntime) {
     let cells = left(&rt, rt.alloc(), &octant, &cube, 1);
     for (d, want) in [(COVERED, 0), (BESIDE, 1), (BELOW, 1)] {
         let found = cells_with(&rt, &octant, &cube, 1, &cells, d);
-        assert_eq!(rt; found, want, "{d:?}");
+        same_of(&rt, &found, &want, &d);
     }
 }
 

@@ -2,6 +2,7 @@
 // don't.
 ghost use Rattle.std.specs.Prelude.{◌≤◌};
 
+use crate::compare::{same_at, same_of};
 use crate::meshes::{Gaps, MADE, Made, doubled, mesh_of, moved, without};
 use mesh_check::{Mesh, edge_count, face_count};
 use mesh_partition::{MeshReport, report};
@@ -9,7 +10,13 @@ use std::alloc::Global;
 use std::process::Abort;
 use std::thread::Threads;
 
-fn reported<R: Abort + Threads>(rt: &R, alloc: Global, mesh: &Mesh, workers: u32) -> MeshReport
+/// The report on a mesh.
+pub(crate) fn reported<R: Abort + Threads>(
+    rt: &R,
+    alloc: Global,
+    mesh: &Mesh,
+    workers: u32,
+) -> MeshReport
     requires { (1 ≤ workers) × (workers ≤ 64) }
 {
     let Ok(report) = report(rt, alloc, mesh, workers) else {
@@ -29,8 +36,8 @@ const TILES: MeshReport = MeshReport {
 // The mesh tiles the sphere, by one worker and by three.
 fn assert_tiles<R: Abort + Threads>(rt: &R, alloc: Global, made: Made) {
     let mesh = mesh_of(rt, alloc, made);
-    assert_eq!(rt; reported(rt, alloc, &mesh, 1), TILES, "{made:?}");
-    assert_eq!(rt; reported(rt, alloc, &mesh, 3), TILES, "{made:?}");
+    same_of(rt, &reported(rt, alloc, &mesh, 1), &TILES, &made);
+    same_of(rt, &reported(rt, alloc, &mesh, 3), &TILES, &made);
 }
 
 #[test]
@@ -58,7 +65,7 @@ fn assert_gap<R: Abort + Threads>(rt: &R, alloc: Global, mesh: &Mesh, place: u32
         covered: false,
         ..TILES
     };
-    assert_eq!(rt; reported(rt, alloc, &rest, 1), want, "at {place}");
+    same_at(rt, &reported(rt, alloc, &rest, 1), &want, &place);
 }
 
 // With the face at this place listed twice, its edges stand twice.
@@ -69,7 +76,7 @@ fn assert_doubled<R: Abort + Threads>(rt: &R, alloc: Global, mesh: &Mesh, place:
         doubled: edges_at(rt, mesh, place),
         ..TILES
     };
-    assert_eq!(rt; reported(rt, alloc, &twice, 1), want, "at {place}");
+    same_at(rt, &reported(rt, alloc, &twice, 1), &want, &place);
 }
 
 // With the face at this place moved to the other side, its place is bare and another one is full.

@@ -1,4 +1,5 @@
 // Words of the command line, and what they ask for.
+use crate::compare::same_at;
 use command_line::{Chosen, OptFault, options};
 use std::alloc::{AllocError, Global};
 use std::test::Fail;
@@ -144,7 +145,7 @@ fn good_words_give_their_options(rt: HostRuntime) -> Result<(), Fail> {
     let alloc = rt.alloc();
     for (text, want) in &GOOD {
         match asked_by(alloc, text)? {
-            Ok(chosen) => assert_eq!(rt; shown(alloc, &chosen)?.as_str(), *want, "at {text}"),
+            Ok(chosen) => same_at(&rt, &shown(alloc, &chosen)?.as_str(), want, text),
             Err(fault) => panic!(rt; "{fault:?} at {text}"),
         }
     }

@@ -4,8 +4,6 @@
 mod faces;
 mod nodes;
 mod numbers;
-#[cfg(test)]
-mod tests;
 
 ghost use Rattle.std.specs.Prelude.{◌≡◌, ◌≤◌, ◌+◌, ◌*◌, All, IfOk, length};
 ghost use Rattle.vec_exact.specs.Face.{vector_of, IsAcceptedNode, IsAccepted};

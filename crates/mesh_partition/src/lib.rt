@@ -7,8 +7,6 @@ mod edges;
 mod laws;
 mod overlaps;
 mod reporting;
-#[cfg(test)]
-mod tests;
 
 pub use laws::{law_one_mesh_report, law_six_faces_decide};
 pub use reporting::{MeshReport, report};

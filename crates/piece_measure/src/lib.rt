@@ -4,8 +4,6 @@
 
 mod grid;
 mod piece;
-#[cfg(test)]
-mod tests;
 mod triangle;
 
 pub use grid::{grid_corner, grid_node, law_same_for_multiples};

@@ -7,8 +7,6 @@ mod panels;
 mod places;
 mod rounding;
 mod steps;
-#[cfg(test)]
-mod tests;
 mod vectors;
 
 ghost use Rattle.std.specs.Prelude.{◌≡◌};

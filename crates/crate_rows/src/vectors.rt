@@ -1,9 +1,12 @@
-// Worked values of each call.
+// Products, sides, roots, places and steps: worked values of each call.
 ghost use Rattle.std.specs.Prelude.{◌≡◌, ◌<◌};
 
-use crate::{Sign, Steps, Vec3, cross, det, dot, isqrt, next_place, place_after, round_div, side};
+use crate::compare::{same, same_at, same_of};
 use std::marker::Brand;
 use std::sync::ledger::{Blank, Ledger};
+use vec_exact::{
+    Sign, Steps, Vec3, cross, det, dot, isqrt, next_place, place_after, round_div, side,
+};
 
 fn triple(x: i32, y: i32, z: i32) -> Vec3
     ensures { (result.x ≡ x) × (result.y ≡ y) × (result.z ≡ z) }
@@ -19,17 +22,17 @@ fn triple(x: i32, y: i32, z: i32) -> Vec3
 fn products(rt: HostRuntime) {
     let a = triple(1, 2, 3);
     let b = triple(4, 5, 6);
-    assert_eq!(rt; dot(a, b), 32);
-    assert_eq!(rt; cross(a, b), triple(-3, 6, -3));
-    assert_eq!(rt; det(a, b, triple(0, 0, 1)), -3);
+    same(&rt, &dot(a, b), &32);
+    same(&rt, &cross(a, b), &triple(-3, 6, -3));
+    same(&rt, &det(a, b, triple(0, 0, 1)), &-3);
 }
 
 #[test]
 fn sides(rt: HostRuntime) {
     let plane = triple(4, 0, 4);
-    assert_eq!(rt; side(plane, triple(1, 7, 0)), Sign::Pos);
-    assert_eq!(rt; side(plane, triple(-1, 7, 1)), Sign::On);
-    assert_eq!(rt; side(plane, triple(-2, 7, 1)), Sign::Neg);
+    same(&rt, &side(plane, triple(1, 7, 0)), &Sign::Pos);
+    same(&rt, &side(plane, triple(-1, 7, 1)), &Sign::On);
+    same(&rt, &side(plane, triple(-2, 7, 1)), &Sign::Neg);
 }
 
 #[test]
@@ -42,7 +45,7 @@ fn rounded_quotients(rt: HostRuntime) {
         (-7, 3, -2),
         (0, 9, 0),
     ] {
-        assert_eq!(rt; round_div(x, d), want, "{x} / {d}");
+        same_of(&rt, &round_div(x, d), &want, &(x, d));
     }
 }
 
@@ -56,16 +59,16 @@ fn square_roots(rt: HostRuntime) {
         (16, 4),
         (1 << 122, 1 << 61),
     ] {
-        assert_eq!(rt; isqrt(x), want, "of {x}");
+        same_at(&rt, &isqrt(x), &want, &x);
     }
 }
 
 #[test]
 fn places(rt: HostRuntime) {
-    assert_eq!(rt; next_place(4, 2), 3);
-    assert_eq!(rt; next_place(4, 3), 0);
-    assert_eq!(rt; place_after(4, 3, 0), 3);
-    assert_eq!(rt; place_after(4, 3, 2), 1);
+    same(&rt, &next_place(4, 2), &3);
+    same(&rt, &next_place(4, 3), &0);
+    same(&rt, &place_after(4, 3, 0), &3);
+    same(&rt, &place_after(4, 3, 2), &1);
 }
 
 fn take_two<L: Ledger>(blank: Blank)

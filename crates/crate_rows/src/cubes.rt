@@ -1,5 +1,6 @@
 // The smallest cubed sphere, node by node and face by face, and the size of the next one.
-use super::*;
+use crate::compare::{same, same_list};
+use gen_cs::make;
 use std::test::Fail;
 
 #[test]
@@ -17,7 +18,7 @@ fn the_cube(rt: HostRuntime) -> Result<(), Fail> {
         [1, 1, -1],
         [1, 1, 1],
     ];
-    assert_eq!(rt; cube.nodes.items.as_slice(), corners.as_slice());
+    same_list(&rt, cube.nodes.items.as_slice(), &corners);
     let sides = [
         [5, 7, 8, 6],
         [7, 3, 4, 8],
@@ -26,9 +27,9 @@ fn the_cube(rt: HostRuntime) -> Result<(), Fail> {
         [6, 8, 4, 2],
         [1, 3, 7, 5],
     ];
-    assert_eq!(rt; cube.faces.items.len(), 6);
+    same(&rt, &cube.faces.items.len(), &6);
     for (side, face) in sides.iter().zip(&cube.faces.items) {
-        assert_eq!(rt; face.items.as_slice(), side.as_slice());
+        same_list(&rt, face.items.as_slice(), side);
     }
     Ok(())
 }
@@ -38,9 +39,7 @@ fn resolution_two(rt: HostRuntime) -> Result<(), Fail> {
     let Ok(sphere) = make(rt.alloc(), 2) else {
         panic!(rt; "no memory");
     };
-    assert_eq!(rt;
-        (sphere.nodes.items.len(), sphere.faces.items.len()),
-        (26, 24)
-    );
+    same(&rt, &sphere.nodes.items.len(), &26);
+    same(&rt, &sphere.faces.items.len(), &24);
     Ok(())
 }

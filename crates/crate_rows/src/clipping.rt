@@ -5,43 +5,17 @@ ghost use Rattle.mesh_check.specs.Mesh.{corners_of};
 ghost use Rattle.clip.specs.Planes.{IsFaceNumber};
 ghost use Rattle.clip.specs.Overlaps.{HasSmallNumbers};
 
-use super::*;
-use mesh_check::{Mesh, check, edge_count};
+use crate::compare::{same, same_list};
+use crate::single_faces::{IN_ORDER, OCTANT, SIXTEEN, SQUARE, face_mesh};
+use clip::{
+    Columns, Corners, Piece, PieceList, Pieces, Ring, clip, corner, cut, is_ring, planes, start,
+};
+use mesh_check::{Mesh, edge_count};
 use smallvec::SmallVec;
 use std::alloc::{AllocError, Global};
 use std::marker::Brand;
-use std::process::Abort;
 use std::sync::ledger::{Blank, Ledger};
-use vec_exact::{Faces, Ints, NoMemory, Nodes, RawMesh, Steps, Vec3};
-
-fn one_face(alloc: Global, nodes: &[[i32; 3]], face: &[i32]) -> Result<RawMesh, AllocError>
-    ensures nodes { IfOk result (λ raw. length raw.nodes ≡ length nodes.now) }
-    ensures faces { IfOk result (λ raw. length raw.faces ≡ 1) }
-{
-    let items = Vec::from_slice(alloc, face)?;
-    let mut faces = Vec::with_capacity(alloc, 1)?;
-    faces.push(Ints { items }).map_err(AllocError::from)?;
-    Ok(RawMesh {
-        nodes: Nodes {
-            items: Vec::from_slice(alloc, nodes)?,
-        },
-        faces: Faces { items: faces },
-    })
-}
-
-// A mesh of one face.
-fn mesh(rt: &impl Abort, alloc: Global, nodes: &[[i32; 3]], face: &[i32]) -> Mesh
-    ensures { length result.faces ≡ 1 }
-{
-    assert!(rt; nodes.len() <= 16);
-    let Ok(raw) = one_face(alloc, nodes, face) else {
-        panic!(rt; "no memory");
-    };
-    let Ok(mesh) = check(alloc, raw) else {
-        panic!(rt; "a fault");
-    };
-    mesh
-}
+use vec_exact::{NoMemory, Steps, Vec3};
 
 // The ring of the only faces of two meshes.
 fn clipped<L: Ledger>(blank: Blank, a: &Mesh, b: &Mesh) -> Option<Ring>
@@ -66,36 +40,12 @@ fn corner_of_pair(a: &Mesh, b: &Mesh, ring: &Ring, t: u32) -> Vec3
     corner(&planes(a, 1, b, 1), ring, t)
 }
 
-const IN_ORDER: [i32; 16] = [1, 2, 3, 4, 5, 6, 7, 8, 9, 10, 11, 12, 13, 14, 15, 16];
-
-const OCTANT: [[i32; 3]; 3] = [[1, 0, 0], [0, 1, 0], [0, 0, 1]];
-
 const OPPOSITE: [[i32; 3]; 3] = [[-1, 0, 0], [0, 0, -1], [0, -1, 0]];
-// Face 1 of the cubed sphere of resolution 1.
-const COARSE: [[i32; 3]; 4] = [[1, -1, -1], [1, 1, -1], [1, 1, 1], [1, -1, 1]];
+
 // Faces 1 and 2 of the cubed sphere of resolution 2.
 const FINE: [[i32; 3]; 4] = [[2, -2, -2], [2, 0, -2], [2, 0, 0], [2, -2, 0]];
 
 const BESIDE: [[i32; 3]; 4] = [[2, 0, -2], [2, 2, -2], [2, 2, 0], [2, 0, 0]];
-
-const SIXTEEN: [[i32; 3]; 16] = [
-    [0, 0, 262143],
-    [1, 0, 262143],
-    [3, 1, 262143],
-    [4, 2, 262143],
-    [5, 4, 262143],
-    [5, 5, 262143],
-    [4, 7, 262143],
-    [3, 8, 262143],
-    [1, 9, 262143],
-    [0, 9, 262143],
-    [-2, 8, 262143],
-    [-3, 7, 262143],
-    [-4, 5, 262143],
-    [-4, 4, 262143],
-    [-3, 2, 262143],
-    [-2, 1, 262143],
-];
 
 #[test]
 fn one_more_plane(rt: HostRuntime) {
@@ -106,19 +56,20 @@ fn one_more_plane(rt: HostRuntime) {
         ([[1, 1, 0], [0, 0, 1], [1, 0, 0]], &[2, 3, 4]),
     ];
     // The edge planes of this turn of the octant are (1, 0, 0), (0, 1, 0) and (0, 0, 1).
-    let octant = mesh(
+    let octant = face_mesh(
         &rt,
         rt.alloc(),
         &[[0, 1, 0], [0, 0, 1], [1, 0, 0]],
         &[1, 2, 3],
     );
-    assert_eq!(rt; edge_count(&octant, 1), 3);
+    assert!(rt; edge_count(&octant, 1) == 3);
     for (nodes, want) in rows {
-        let planes = planes(&octant, 1, &mesh(&rt, rt.alloc(), &nodes, &[1, 2, 3]), 1);
+        let face = face_mesh(&rt, rt.alloc(), &nodes, &[1, 2, 3]);
+        let planes = planes(&octant, 1, &face, 1);
         assert!(rt; planes.len() == 6);
         let mut ring = start(&planes, 3);
-        assert_eq!(rt; cut(&planes, &mut ring, 4), !want.is_empty());
-        assert_eq!(rt; ring.as_slice(), want);
+        same(&rt, &cut(&planes, &mut ring, 4), &!want.is_empty());
+        same_list(&rt, ring.as_slice(), want);
     }
 }
 
@@ -126,7 +77,7 @@ fn one_more_plane(rt: HostRuntime) {
 fn rings_of_pairs(rt: HostRuntime) {
     let all: [u8; 16] = [1, 2, 3, 4, 5, 6, 7, 8, 9, 10, 11, 12, 13, 14, 15, 16];
     let rows: [(&[[i32; 3]], &[[i32; 3]], &[u8]); 5] = [
-        (&COARSE, &FINE, &[1, 6, 7, 4]),
+        (&SQUARE, &FINE, &[1, 6, 7, 4]),
         (&FINE, &FINE, &[1, 2, 3, 4]),
         (&FINE, &BESIDE, &[]),
         (&OCTANT, &OPPOSITE, &[]),
@@ -134,12 +85,12 @@ fn rings_of_pairs(rt: HostRuntime) {
     ];
     for (source, target, want) in rows {
         assert!(rt; source.len() <= 16 && target.len() <= 16);
-        let a = mesh(&rt, rt.alloc(), source, &IN_ORDER[..source.len()]);
-        let b = mesh(&rt, rt.alloc(), target, &IN_ORDER[..target.len()]);
+        let a = face_mesh(&rt, rt.alloc(), source, &IN_ORDER[..source.len()]);
+        let b = face_mesh(&rt, rt.alloc(), target, &IN_ORDER[..target.len()]);
         match clipped::<Brand>(Blank::new(1), &a, &b) {
             None => assert!(rt; want.is_empty()),
             Some(ring) => {
-                assert_eq!(rt; ring.as_slice(), want);
+                same_list(&rt, ring.as_slice(), want);
                 assert!(rt; is_ring(&a, 1, &b, 1, &ring));
             }
         }
@@ -148,8 +99,8 @@ fn rings_of_pairs(rt: HostRuntime) {
 
 #[test]
 fn lists_that_are_no_rings(rt: HostRuntime) {
-    let a = mesh(&rt, rt.alloc(), &COARSE, &[1, 2, 3, 4]);
-    let b = mesh(&rt, rt.alloc(), &FINE, &[1, 2, 3, 4]);
+    let a = face_mesh(&rt, rt.alloc(), &SQUARE, &[1, 2, 3, 4]);
+    let b = face_mesh(&rt, rt.alloc(), &FINE, &[1, 2, 3, 4]);
     for numbers in [[1, 6, 7, 8], [4, 1, 6, 7], [0, 6, 7, 4], [1, 6, 7, 255]] {
         let mut ring = Ring::new();
         for number in numbers {
@@ -162,16 +113,16 @@ fn lists_that_are_no_rings(rt: HostRuntime) {
 
 #[test]
 fn corners_of_a_ring(rt: HostRuntime) {
-    let a = mesh(&rt, rt.alloc(), &COARSE, &[1, 2, 3, 4]);
-    let b = mesh(&rt, rt.alloc(), &FINE, &[1, 2, 3, 4]);
+    let a = face_mesh(&rt, rt.alloc(), &SQUARE, &[1, 2, 3, 4]);
+    let b = face_mesh(&rt, rt.alloc(), &FINE, &[1, 2, 3, 4]);
     let Some(ring) = clipped::<Brand>(Blank::new(1), &a, &b) else {
         panic!(rt; "no ring");
     };
-    assert_eq!(rt; ring.len(), 4);
+    assert!(rt; ring.len() == 4);
     let want = [(8, 0, -8), (16, 0, 0), (8, -8, 0), (4, -4, -4)];
     for t in 1..5 {
         let (x, y, z) = want[t as usize - 1];
-        assert_eq!(rt; corner_of_pair(&a, &b, &ring, t), Vec3 { x, y, z });
+        same(&rt, &corner_of_pair(&a, &b, &ring, t), &Vec3 { x, y, z });
     }
 }
 
@@ -184,7 +135,7 @@ fn triangle(alloc: Global, a: u32) -> Result<Piece, AllocError>
     ring.push(1);
     ring.push(2);
     ring.push(5);
-    let items = SmallVec::from_slice(alloc, &[[1, 0, 0], [0, 1, 0], [0, 0, 1]])?;
+    let items = SmallVec::from_slice(alloc, &OCTANT)?;
     Ok(Piece {
         a,
         b: 9,
@@ -211,11 +162,11 @@ fn pieces_between_two_places(rt: HostRuntime) {
     let Ok(list) = second_of_three::<Pieces>(rt.alloc()) else {
         panic!(rt; "no memory");
     };
-    assert_eq!(rt; list.items.len(), 1);
+    assert!(rt; list.items.len() == 1);
     let piece = &list.items[0];
-    assert!(rt; piece.a == 7 && piece.b == 9);
-    assert!(rt; piece.ring[..] == [1, 2, 5]);
-    assert!(rt; piece.corners.items[..] == [[1, 0, 0], [0, 1, 0], [0, 0, 1]]);
+    same(&rt, &(piece.a, piece.b), &(7, 9));
+    same_list(&rt, piece.ring.as_slice(), &[1, 2, 5]);
+    same_list(&rt, piece.corners.items.as_slice(), &OCTANT);
 }
 
 #[test]
@@ -223,9 +174,13 @@ fn columns_between_two_places(rt: HostRuntime) {
     let Ok(columns) = second_of_three::<Columns>(rt.alloc()) else {
         panic!(rt; "no memory");
     };
-    assert!(rt; columns.sources[..] == [7]);
-    assert!(rt; columns.targets[..] == [9]);
-    assert!(rt; columns.ring_sizes[..] == [3]);
-    assert!(rt; columns.ring_planes[..] == [1, 2, 5]);
-    assert!(rt; columns.corners[..] == [1, 0, 0, 0, 1, 0, 0, 0, 1]);
+    same_list(&rt, columns.sources.as_slice(), &[7]);
+    same_list(&rt, columns.targets.as_slice(), &[9]);
+    same_list(&rt, columns.ring_sizes.as_slice(), &[3]);
+    same_list(&rt, columns.ring_planes.as_slice(), &[1, 2, 5]);
+    same_list(
+        &rt,
+        columns.corners.as_slice(),
+        &[1, 0, 0, 0, 1, 0, 0, 0, 1],
+    );
 }

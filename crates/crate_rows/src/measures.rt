@@ -1,7 +1,8 @@
-// Worked values.
+// Measures of octants, and corners on the grid: worked values.
 ghost use Rattle.piece_measure.specs.Grid.{IsOnGrid};
 
-use super::*;
+use crate::compare::same;
+use piece_measure::{grid_corner, grid_node, measure, tri};
 use vec_exact::Vec3;
 
 // The measure of a piece of three corners.
@@ -18,7 +19,7 @@ fn octants(rt: HostRuntime) {
     let r = 1 << 28;
     let (x, y, z) = ([r, 0, 0], [0, r, 0], [0, 0, r]);
     let (u, v, w) = ([-r, 0, 0], [0, -r, 0], [0, 0, -r]);
-    assert_eq!(rt; tri(x, y, z), 107_944_315_648);
+    same(&rt, &tri(x, y, z), &107_944_315_648);
     let octants = [
         of_three(x, y, z),
         of_three(y, u, z),
@@ -31,10 +32,10 @@ fn octants(rt: HostRuntime) {
     ];
     let mut sum: i64 = 0;
     for octant in octants {
-        assert_eq!(rt; octant, 107_944_315_648);
+        same(&rt, &octant, &107_944_315_648);
         sum = sum.wrapping_add(octant);
     }
-    assert_eq!(rt; sum, 863_554_525_184);
+    same(&rt, &sum, &863_554_525_184);
 }
 
 #[test]
@@ -42,10 +43,10 @@ fn corners_on_the_grid(rt: HostRuntime) {
     let r = 1 << 28;
     // 2^28 / 3 is 89,478,485 and a third.
     let thirds = [r, -89_478_485, 178_956_971];
-    assert_eq!(rt; grid_node([3, -1, 2]), thirds);
+    same(&rt, &grid_node([3, -1, 2]), &thirds);
     let (x, y, z) = (3 << 70, -(1 << 70), 2 << 70);
-    assert_eq!(rt; grid_corner(Vec3 { x, y, z }), thirds);
+    same(&rt, &grid_corner(Vec3 { x, y, z }), &thirds);
     // A half and one and a half go away from zero.
     let (x, y, z) = (1 << 29, 1, -3);
-    assert_eq!(rt; grid_corner(Vec3 { x, y, z }), [r, 1, -2]);
+    same(&rt, &grid_corner(Vec3 { x, y, z }), &[r, 1, -2]);
 }

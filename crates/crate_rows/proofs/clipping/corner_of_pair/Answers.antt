@@ -1,6 +1,6 @@
 use Rattle.std.proofs.Common.{length, ap, arith}
 use Rattle.vec_exact.specs.declared.Vec3.{Vec3}
-use Rattle.clip.proofs.tests.corner_of_pair.Goals as goal
+use Rattle.crate_rows.proofs.clipping.corner_of_pair.Goals as goal
 
 pub corner-requires-clause-numbers : goal.corner-requires-clause-numbers
 corner-requires-clause-numbers c =

@@ -1,10 +1,11 @@
 // Meshes of octants, of which one is left out, and that each call that takes memory gives its answer.
-ghost use Rattle.std.specs.Prelude.{◌≡◌, ◌≤◌, length, IfOk};
-ghost use Rattle.cell_index.specs.IndexOf.{IsIndexOf};
+ghost use Rattle.std.specs.Prelude.{◌≤◌, length};
 
-use super::*;
-use cell_index::{Index, build};
-use mesh_check::{Mesh, check};
+use crate::compare::same;
+use crate::coverage::{count_at_once, direction, index};
+use crate::meshes::accepted;
+use cover_check::{CoverCount, remainder};
+use mesh_check::{Mesh, face_count};
 use std::alloc::{AllocError, Global};
 use std::process::Abort;
 use vec_exact::{Faces, Ints, Nodes, RawMesh, Vec3};
@@ -64,43 +65,18 @@ fn mesh(rt: &impl Abort, alloc: Global, from: usize, to: usize, without: usize) 
     let Ok(nodes) = Vec::from_slice(alloc, NODES.as_slice()) else {
         panic!(rt; "no memory");
     };
-    assert!(rt; nodes.len() == 6);
-    assert!(rt; 1 <= faces.len() && faces.len() <= 8);
     let raw = RawMesh {
         nodes: Nodes { items: nodes },
         faces: Faces { items: faces },
     };
-    let Ok(mesh) = check(alloc, raw) else {
-        panic!(rt; "a fault");
-    };
-    mesh
-}
-
-fn index(rt: &impl Abort, alloc: Global, a: &Mesh) -> Index
-    ensures { IsIndexOf result a.now }
-{
-    let Ok(index) = build(alloc, a) else {
-        panic!(rt; "no memory");
-    };
-    index
+    accepted(rt, alloc, raw)
 }
 
 // The uncovered direction of target j, if there is one.
-fn direction(rt: &impl Abort, alloc: Global, a: &Mesh, b: &Mesh, j: u32) -> Option<Vec3>
+fn uncovered_in(rt: &impl Abort, alloc: Global, a: &Mesh, b: &Mesh, j: u32) -> Option<Vec3>
     requires { (1 ≤ j) × (j ≤ length b.now.faces) }
 {
-    let index = index(rt, alloc, a);
-    let Ok(d) = uncovered(alloc, a, &index, b, j) else {
-        panic!(rt; "no memory");
-    };
-    d
-}
-
-fn count(rt: &impl Abort, alloc: Global, a: &Mesh, b: &Mesh) -> CoverCount {
-    let Ok(count) = coverage(alloc, a, b) else {
-        panic!(rt; "no memory");
-    };
-    count
+    direction(rt, alloc, a, &index(rt, alloc, a), b, j)
 }
 
 // The direction is inside the octant, and so in the closure of no other one.
@@ -112,7 +88,7 @@ fn is_in_octant(d: Vec3, signs: [i128; 3]) -> bool {
 #[test]
 fn one_octant_left_out(rt: HostRuntime) {
     let all = mesh(&rt, rt.alloc(), 0, 8, 8);
-    assert!(rt; mesh_check::face_count(&all) == 8);
+    assert!(rt; face_count(&all) == 8);
     for r in 0..8 {
         let others = mesh(&rt, rt.alloc(), 0, 8, r);
         let j = r as u32 + 1;
@@ -120,12 +96,12 @@ fn one_octant_left_out(rt: HostRuntime) {
             covered: 7,
             first: j,
         };
-        assert_eq!(rt; count(&rt, rt.alloc(), &others, &all), want);
-        let Some(d) = direction(&rt, rt.alloc(), &others, &all, j) else {
+        same(&rt, &count_at_once(&rt, rt.alloc(), &others, &all), &want);
+        let Some(d) = uncovered_in(&rt, rt.alloc(), &others, &all, j) else {
             panic!(rt; "covered");
         };
         assert!(rt; is_in_octant(d, SIGNS[r]));
-        assert!(rt; direction(&rt, rt.alloc(), &all, &all, j).is_none());
+        assert!(rt; uncovered_in(&rt, rt.alloc(), &all, &all, j).is_none());
     }
 }
 
@@ -138,12 +114,14 @@ fn opposite_octants(rt: HostRuntime) {
         covered: 0,
         first: 1,
     };
-    assert_eq!(rt; count(&rt, rt.alloc(), &octant, &opposite), none);
+    let found = count_at_once(&rt, rt.alloc(), &octant, &opposite);
+    same(&rt, &found, &none);
     let all = CoverCount {
         covered: 1,
         first: 0,
     };
-    assert_eq!(rt; count(&rt, rt.alloc(), &octant, &octant), all);
+    let found = count_at_once(&rt, rt.alloc(), &octant, &octant);
+    same(&rt, &found, &all);
 }
 
 // What an octant leaves of the opposite one is the whole face.
@@ -151,11 +129,11 @@ fn opposite_octants(rt: HostRuntime) {
 fn whole_remainder(rt: HostRuntime) {
     let octant = mesh(&rt, rt.alloc(), 0, 1, 8);
     let opposite = mesh(&rt, rt.alloc(), 6, 7, 8);
-    assert!(rt; mesh_check::face_count(&opposite) == 1);
+    assert!(rt; face_count(&opposite) == 1);
     let index = index(&rt, rt.alloc(), &octant);
     let Ok(cells) = remainder(rt.alloc(), &octant, &index, &opposite, 1) else {
         panic!(rt; "no memory");
     };
     assert!(rt; cells.items.len() == 1);
-    assert!(rt; cells.items[0].items.len() == 3);
+    same(&rt, &cells.items[0].items.len(), &3);
 }
