@@ -8,8 +8,6 @@ use Rattle.std.proofs.lemmas.List.Elements.{Contains-append_left, Contains-push,
 use Rattle.std.proofs.lemmas.List.Kept.{Contains-dedup_nat, Contains-from_dedup}
 use Rattle.std.proofs.lemmas.List.Sorted.{Contains-permutation, IsPermutation-sym}
 use Rattle.std.proofs.lemmas.Nat.{mul-le}
-use Rattle.std.proofs.lemmas.Bool.{leb-true, le-leb}
-use Rattle.std.proofs.Math.Dec.{leb}
 use Rattle.vec_exact.proofs.Cycles.{same_or_not, below_same_above}
 use Rattle.cell_index.specs.declared.CellBox.{CellBox}
 use Rattle.cell_index.specs.declared.Boxes.{Boxes}
@@ -92,32 +90,25 @@ gathers_on a b d P Q R h g f u v = record {
   all = λ j l r. elim (f j r) [ inl p ↦ g.keeps j (h.all j l p) | inr q ↦ g.all j l q ];
 }
 
-gathers_skip : (a : List ℕ) (x : ℕ) → ¬ (1 ≤ x) → Gathers a a (λ j. x ≡ j)
+pub gathers_skip : (a : List ℕ) (x : ℕ) → ¬ (1 ≤ x) → Gathers a a (λ j. x ≡ j)
 gathers_skip a x n = record { keeps = λ j c. c; only = λ j c. inl c; all = λ j l e. absurd (n (omega (arith, l, e))) }
 
-gathers_push : (a : List ℕ) (x : ℕ) → 1 ≤ x → Gathers a (a ++ x ∷ []) (λ j. x ≡ j)
+pub gathers_push : (a : List ℕ) (x : ℕ) → 1 ≤ x → Gathers a (a ++ x ∷ []) (λ j. x ≡ j)
 gathers_push a x l = record {
   keeps = λ j c. Contains-append_left a (x ∷ []) j c;
   only = λ j c. elim (Contains-push_cases a x j c) [ inl d ↦ inl d | inr e ↦ inr (omega (arith, l, e), e) ];
   all = λ j m e. subst (λ (i : ℕ). Contains (a ++ x ∷ []) i) e (Contains-push a x);
 }
 
-gathers_one : (a b : List ℕ) (x : ℕ) (t : Bool) → IsTrue t ↔ (1 ≤ x) → b ≡ (if t then a ++ x ∷ [] else a) → Gathers a b (λ j. x ≡ j)
-gathers_one a b x true d e = subst (λ (z : List ℕ). Gathers a z (λ j. x ≡ j)) (sym e) (gathers_push a x (d.0 refl))
-gathers_one a b x false d e = subst (λ (z : List ℕ). Gathers a z (λ j. x ≡ j)) (sym e) (gathers_skip a x (λ s. false_true (d.1 s)))
-  where
-    false_true : false ≡ true → ⊥
-    false_true q = cc
-
-pub one_tested : (n : ℕ) → IsTrue (leb 1 n) ↔ (1 ≤ n)
-one_tested n = (λ h. leb-true 1 n h, λ h. le-leb 1 n h)
+pub gathers_known : (a : List ℕ) (x : ℕ) → Contains a x → Gathers a a (λ j. x ≡ j)
+gathers_known a x c = record { keeps = λ j d. d; only = λ j d. inl d; all = λ j l e. subst (λ (i : ℕ). Contains a i) e c }
 
 pub gathers_start : (a faces : List ℕ) (t : ℕ) → Gathers a a (InPart faces t t)
 gathers_start a faces t = gathers_none a (InPart faces t t) (no_part faces t)
 
-pub gathers_more : (a b d faces : List ℕ) (from t x : ℕ) (w : Bool) → from ≤ t → Gathers a b (InPart faces from t) → x ≡ get_or faces t 0 → IsTrue w ↔ (1 ≤ x) → d ≡ (if w then b ++ x ∷ [] else b) → Gathers a d (InPart faces from (t + 1))
-gathers_more a b d faces from t x w low h e s n =
-    gathers_on a b d (InPart faces from t) (λ j. x ≡ j) (InPart faces from (t + 1)) h (gathers_one b d x w s n) split
+pub gathers_more : (a b d faces : List ℕ) (from t x : ℕ) → from ≤ t → Gathers a b (InPart faces from t) → x ≡ get_or faces t 0 → Gathers b d (λ j. x ≡ j) → Gathers a d (InPart faces from (t + 1))
+gathers_more a b d faces from t x low h e g =
+    gathers_on a b d (InPart faces from t) (λ j. x ≡ j) (InPart faces from (t + 1)) h g split
     (λ j q. record { place = q.place; low = q.low; high = omega (arith, q.high); is = q.is })
     (λ j q. record { place = t; low = low; high = omega arith; is = sym e ∙ q })
   where

@@ -1,5 +1,5 @@
 use Rattle.std.proofs.Common.{arith, refl, get_or}
-use Rattle.cell_index.proofs.Searches.{gathers_start, gathers_more, one_tested}
+use Rattle.cell_index.proofs.Searches.{gathers_start, gathers_more}
 use Rattle.cell_index.proofs.search.gather_part.Goals as goal
 
 pub loop-t-init : goal.loop-t-init
@@ -9,4 +9,4 @@ pub loop-t-preserved : goal.loop-t-preserved
 loop-t-preserved c =
     let faces = c.args.faces.now in
     let t = c.loop-t.t in
-    gathers_more c.args.found.now.items c.loop-t.found.items c.put_if.new.list.items faces c.args.from t (get_or faces t 0) _ (omega arith) c.loop-t.invariant refl (one_tested (get_or faces t 0)) c.in_ok-put_if.ensures
+    gathers_more c.args.found.now.items c.loop-t.found.items c.put_once.new.found.items faces c.args.from t (get_or faces t 0) (omega arith) c.loop-t.invariant refl c.in_ok-put_once.ensures
