@@ -4,6 +4,7 @@ pub mod Started
 pub mod Gap
 pub mod OneMore
 pub mod Pair
+pub mod PairAnswers
 pub mod Answered
 pub mod RingFacts
 pub mod PieceOrder

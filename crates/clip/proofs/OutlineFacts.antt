@@ -76,6 +76,19 @@ kept_off f g fn fp gn gp t z a b lt h n =
     let l : t < length f = omega (arith, plane_count f fn fp a) in
     (t, l, λ s ls. subst (λ (y : ℤ). y ≤ℤ pos 0) (side_is f g fn fp gn gp a b t s l ls) (omega (arith, ints, h s (omega (arith, node_count g gn gp b)), n)))
 
+-- the same for nodes that no planes are known of
+pub kept_off_nodes : (f : List Vec3) (fn fp gn : List NarrowVec3) (t : ℕ) → AreParts f fn fp → t < length fp
+    → ((s : ℕ) → s < length gn → inner (wide (slice_index_or fp t narrow_zero)) (wide (slice_index_or gn s narrow_zero)) ≤ℤ pos 0) → KeepsOff f (wide_list gn)
+kept_off_nodes f fn fp gn t a lt h =
+    let l : t < length f = omega (arith, plane_count f fn fp a) in (
+      t,
+      l,
+      λ s ls. let lg : s < length gn = omega (arith, length-wide_list gn) in
+          subst (λ (y : ℤ). y ≤ℤ pos 0)
+          (ap (λ (p : Vec3). inner p (wide (slice_index_or gn s narrow_zero))) (plane_is f fn fp a t l) ∙ ap (inner (face_plane f t)) (sym (wide_at gn s lg)))
+          (h s lg),
+    )
+
 pub cuts_nothing : (f g : List Vec3) (fn fp gn gp : List NarrowVec3) (t : ℕ) (z : ℤ) → AreParts f fn fp → AreParts g gn gp → t < length gp
     → ((s : ℕ) → s < length fn → z ≤ℤ inner (wide (slice_index_or gp t narrow_zero)) (wide (slice_index_or fn s narrow_zero))) → pos 0 ≤ℤ z
     → (s : ℕ) → s < length f → pos 0 ≤ℤ inner (face_plane g t) (vector_at f s)

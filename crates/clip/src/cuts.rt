@@ -1,18 +1,23 @@
 // The ring of two faces, by one plane of the second face after another.
-ghost use Rattle.std.specs.Prelude.{◌≡◌, ◌≢◌, ◌↔◌, ◌+◌, ◌-◌, ◌<◌, ◌≤◌, pos, ◌≤ℤ◌, ◌<ℤ◌, ℕ, List, length, slice_index, slice_index_or, MatchOption, IsTrue, false, []};
+ghost use Rattle.std.specs.Prelude.{◌≡◌, ◌≢◌, ◌↔◌, ◌+◌, ◌-◌, ◌<◌, ◌≤◌, pos, ◌≤ℤ◌, ◌<ℤ◌, ℕ, List, length, slice_index, slice_index_or, MatchOption, IsSome, IsTrue, false, []};
 ghost use Rattle.std.specs.List.{range_with_len};
 ghost use Rattle.vec_exact.specs.Cycle.{after};
+ghost use Rattle.vec_exact.specs.Face.{IsAcceptedFace};
+ghost use Rattle.mesh_check.specs.Mesh.{corners_of};
 ghost use Rattle.cone_laws.specs.Inside.{Meets};
 ghost use Rattle.cone_laws.specs.Ring.{plane, planes_of_pair, IsCycle, IsRingOfFirst, IsRing};
-ghost use Rattle.clip.specs.Planes.{HasInside};
+ghost use Rattle.clip.specs.Planes.{HasInside, IsFaceNumber};
 ghost use Rattle.clip.specs.Usable.{HaveSigns};
 ghost use Rattle.clip.specs.Outlines.{nodes_of, IsOutline, AreCuts};
 
 use crate::lists::Ring;
 use crate::meetings::signs_on;
-use crate::outlines::{Outline, count_of, cuts_of, outline_keeps_off, plane_of};
+use crate::outlines::{
+    Outline, count_of, cuts_of, outline_keeps_off, plane_of, read_unless_kept_off,
+};
 use crate::rings::{begin_with_least, turn};
 use crate::sides::{has_negative, positive_run, rise};
+use mesh_check::Mesh;
 use vec_exact::next_place;
 
 // The ring of the edges of `f`: the numbers from 1 on. `g` stands in the contract alone.
@@ -97,6 +102,20 @@ fn ring_of_cuts(f: &Outline, g: &Outline, cuts: &[bool]) -> Option<Ring>
     Some(ring)
 }
 
+// The ring of two faces, where they meet, by the edges of `g` alone: where no edge of `f` keeps `g`
+// off, this is all that is left to do, and where one does, it comes to the same.
+fn ring_of_near(f: &Outline, g: &Outline) -> Option<Ring>
+    requires f { IsOutline f.now }
+    requires g { IsOutline g.now }
+    ensures { MatchOption result (¬ Meets (nodes_of f.now) (nodes_of g.now))
+        (λ ring. IsRing (nodes_of f.now) (nodes_of g.now) ring.items) }
+{
+    match cuts_of(f, g) {
+        None => None,
+        Some(cuts) => ring_of_cuts(f, g, cuts.as_slice()),
+    }
+}
+
 /// The ring of two faces, where they meet.
 pub fn ring_of_outlines(f: &Outline, g: &Outline) -> Option<Ring>
     requires f { IsOutline f.now }
@@ -107,8 +126,22 @@ pub fn ring_of_outlines(f: &Outline, g: &Outline) -> Option<Ring>
     if outline_keeps_off(f, g) {
         return None;
     }
-    match cuts_of(f, g) {
-        None => None,
-        Some(cuts) => ring_of_cuts(f, g, cuts.as_slice()),
+    ring_of_near(f, g)
+}
+
+/// The ring of the face `f` and a face of a mesh, where they meet. Where they do, `g` becomes that
+/// face, and else it is open what `g` holds.
+pub fn ring_with_next(f: &Outline, mesh: &Mesh, face: u32, g: &mut Outline) -> Option<Ring>
+    requires f { IsOutline f.now }
+    requires face { IsFaceNumber mesh.now face }
+    ensures ring { MatchOption result (¬ Meets (nodes_of f.now) (corners_of mesh.now face))
+        (λ ring. IsRing (nodes_of f.now) (corners_of mesh.now face) ring.items) }
+    ensures nodes { IsSome result → nodes_of g.new ≡ corners_of mesh.now face }
+    ensures outline { IsSome result → IsOutline g.new }
+    ensures accepted { IsAcceptedFace (corners_of mesh.now face) }
+{
+    if !read_unless_kept_off(f, mesh, face, g) {
+        return None;
     }
+    ring_of_near(f, g)
 }

@@ -19,6 +19,6 @@ pub use forms::{CornerForm, corner_form};
 pub use lists::{PlaneList, Ring, corner};
 pub use outlines::{Outline, outline_of, read_outline};
 pub use overlap::Overlap;
-pub use pairs::{clip, clip_outlines, is_ring, is_ring_of_outlines, planes};
+pub use pairs::{clip, clip_next, is_ring, is_ring_of_outlines, planes};
 pub use pieces::{Corners, Piece, Pieces};
 pub use rings::{cut, start};

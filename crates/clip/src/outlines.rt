@@ -1,15 +1,17 @@
 // A face with the planes of its edges, in 64 bits, and what it says of another one.
-ghost use Rattle.std.specs.Prelude.{◌≡◌, ◌<◌, ◌≤◌, [], length, MatchOption, IsTrue};
+ghost use Rattle.std.specs.Prelude.{◌≡◌, ℕ, ◌<◌, ◌≤◌, pos, ◌≤ℤ◌, [], length, slice_index_or, MatchOption, IsTrue, false};
+ghost use Rattle.vec_exact.specs.Face.{IsAcceptedFace};
 ghost use Rattle.vec_exact.specs.Size.{Is18, Is37};
+ghost use Rattle.vec_exact.specs.Vector.{inner};
 ghost use Rattle.vec_exact.specs.Cycle.{vector_at, face_plane};
 ghost use Rattle.mesh_check.specs.Mesh.{corners_of};
 ghost use Rattle.cone_laws.specs.Ring.{face_planes};
 ghost use Rattle.clip.specs.Planes.{IsFaceNumber};
 ghost use Rattle.clip.specs.Apart.{KeepsOff};
-ghost use Rattle.clip.specs.Narrow.{wide, AreNodeSized};
+ghost use Rattle.clip.specs.Narrow.{wide, narrow_zero, AreNodeSized};
 ghost use Rattle.clip.specs.Outlines.{wide_list, nodes_of, IsOutline, AreCuts};
 
-use crate::narrow::{NarrowVec3, extent_on, narrow_cross, narrow_of};
+use crate::narrow::{NarrowVec3, extent_on, narrow_cross, narrow_dot, narrow_of};
 use arrayvec::ArrayVec;
 use mesh_check::{Mesh, edge_count, node};
 use vec_exact::next_place;
@@ -117,20 +119,62 @@ pub fn plane_of(face: &Outline, t: usize) -> NarrowVec3
     face.planes.as_slice()[t]
 }
 
+// Whether no node is on the positive side of the plane.
+fn is_beyond(plane: NarrowVec3, nodes: &[NarrowVec3]) -> bool
+    requires plane { Is37 (wide plane) }
+    requires nodes { AreNodeSized nodes.now }
+    ensures { IsTrue result → (s : ℕ) → s < length nodes.now
+        → inner (wide plane) (wide (slice_index_or nodes.now s narrow_zero)) ≤ℤ pos 0 }
+{
+    for s in 0..nodes.len() {
+        if narrow_dot(plane, nodes[s]) > 0 {
+            return false;
+        }
+    }
+    true
+}
+
+// Whether some edge of `f` has none of the nodes on its positive side.
+fn planes_keep_off(f: &Outline, nodes: &[NarrowVec3]) -> bool
+    requires f { IsOutline f.now }
+    requires nodes { AreNodeSized nodes.now }
+    ensures { IsTrue result → KeepsOff (nodes_of f.now) (wide_list nodes.now) }
+{
+    let planes = f.planes.as_slice();
+    for t in 0..planes.len() {
+        if is_beyond(planes[t], nodes) {
+            return true;
+        }
+    }
+    false
+}
+
 // Whether some edge of `f` has no node of `g` on its positive side.
 pub fn outline_keeps_off(f: &Outline, g: &Outline) -> bool
     requires f { IsOutline f.now }
     requires g { IsOutline g.now }
     ensures { IsTrue result → KeepsOff (nodes_of f.now) (nodes_of g.now) }
 {
-    let planes = f.planes.as_slice();
+    planes_keep_off(f, g.nodes.as_slice())
+}
+
+// Reads the face with this number, in place of what `g` held, unless some edge of `f` keeps it off:
+// most faces near `f` are kept off, and need no planes.
+pub fn read_unless_kept_off(f: &Outline, mesh: &Mesh, face: u32, g: &mut Outline) -> bool
+    requires f { IsOutline f.now }
+    requires face { IsFaceNumber mesh.now face }
+    ensures off { result ≡ false → KeepsOff (nodes_of f.now) (corners_of mesh.now face) }
+    ensures nodes { IsTrue result → nodes_of g.new ≡ corners_of mesh.now face }
+    ensures outline { IsTrue result → IsOutline g.new }
+    ensures accepted { IsAcceptedFace (corners_of mesh.now face) }
+{
+    read_nodes(mesh, face, edge_count(mesh, face), &mut g.nodes);
     let nodes = g.nodes.as_slice();
-    for t in 0..planes.len() {
-        if extent_on(planes[t], nodes).greatest <= 0 {
-            return true;
-        }
+    if planes_keep_off(f, nodes) {
+        return false;
     }
-    false
+    make_planes(nodes, &mut g.planes);
+    true
 }
 
 // The edges of `g` that have some node of `f` on their negative side, and None where some edge of

@@ -9,7 +9,7 @@ ghost use Rattle.mesh_check.specs.Mesh.{corners_of};
 ghost use Rattle.clip.specs.Outlines.{nodes_of, IsOutline};
 ghost use Rattle.clip.specs.Planes.{EachIs37, NoneIsZero, IsFaceNumber};
 
-use crate::cuts::ring_of_outlines;
+use crate::cuts::{ring_of_outlines, ring_with_next};
 use crate::lists::{PlaneList, Ring};
 use crate::outlines::{Outline, outline_of};
 use mesh_check::{Mesh, edge_count, plane};
@@ -65,14 +65,15 @@ pub fn clip<L: Ledger>(a: &Mesh, i: u32, b: &Mesh, j: u32, steps: &mut Steps<L>)
         ↔ (IsInside source d × IsInside target d)) }
     ensures tick { steps.new ≡ steps.old + 1 }
 {
-    clip_outlines(&outline_of(a, i), &outline_of(b, j), a, i, b, j, steps)
+    clip_next(&outline_of(a, i), &mut Outline::new(), a, i, b, j, steps)
 }
 
-/// `clip` for two faces that were read before: `f` is face `i` of `a`, and `g` is face `j` of `b`.
-/// The meshes and the numbers stand in the contract alone.
-pub fn clip_outlines<L: Ledger>(
+/// `clip` for a face that was read before and one that is read now: `f` is face `i` of `a`, and `g`
+/// becomes face `j` of `b` where the two meet. Where they don't, it is open what `g` holds. The mesh
+/// `a` and the number `i` stand in the contract alone.
+pub fn clip_next<L: Ledger>(
     f: &Outline,
-    g: &Outline,
+    g: &mut Outline,
     a: &Mesh,
     i: u32,
     b: &Mesh,
@@ -80,9 +81,8 @@ pub fn clip_outlines<L: Ledger>(
     steps: &mut Steps<L>,
 ) -> Option<Ring>
     requires f { IsOutline f.now }
-    requires g { IsOutline g.now }
     requires source { nodes_of f.now ≡ corners_of a.now i }
-    requires target { nodes_of g.now ≡ corners_of b.now j }
+    requires target { IsFaceNumber b.now j }
     ensures meets { IsSome result ↔ Meets (corners_of a.now i) (corners_of b.now j) }
     ensures ring { IfSome result (λ ring.
         IsRing (corners_of a.now i) (corners_of b.now j) ring.items) }
@@ -91,10 +91,12 @@ pub fn clip_outlines<L: Ledger>(
         IfSome result (λ ring. (d : Triple)
         → (AllPositive (length ring.items) (listed (planes_of_pair source target) ring.items) d)
         ↔ (IsInside source d × IsInside target d)) }
+    ensures nodes { IsSome result → nodes_of g.new ≡ corners_of b.now j }
+    ensures outline { IsSome result → IsOutline g.new }
     ensures tick { steps.new ≡ steps.old + 1 }
 {
     steps.tick();
-    ring_of_outlines(f, g)
+    ring_with_next(f, b, j, g)
 }
 
 /// Whether `ring` is the ring of two faces that were read, first the edges of `f`, then those of `g`.

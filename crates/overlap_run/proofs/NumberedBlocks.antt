@@ -1,5 +1,5 @@
 -- Blocks of 64 source faces, one after another.
-use Rattle.std.proofs.Common.{◌≡◌, ℕ, suc, ◌+◌, ◌*◌, ◌<◌, ◌≤◌, ◌^◌, min, List, [], ◌∷◌, length, slice_index_or, ap, sym, ◌∙◌, subst, arith}
+use Rattle.std.proofs.Common.{◌≡◌, ℕ, suc, ◌+◌, ◌-◌, ◌*◌, ◌<◌, ◌≤◌, ◌^◌, min, List, [], ◌∷◌, length, slice_index_or, ap, sym, ◌∙◌, subst, arith}
 use Rattle.std.specs.Int.{div_ceil}
 use Rattle.block_workers.specs.InPlace.{AllInPlace}
 use Rattle.vec_exact.specs.declared.RawMesh.{RawMesh}
@@ -60,6 +60,24 @@ module _ {C : Type 0} (Holds : C → List Piece → Type 0) (a b : RawMesh) wher
   -- all blocks
   pub first_all : (s blocks : ℕ) → blocks ≤ s → blocks ≡ div_ceil (length a.faces) 64 → (run : Block C) → AreFirstBlocks Holds a b s run → IsBlockOf Holds a b (DoMeet a b) run
   first_all s blocks l e run h = whole_block Holds a b run (subst (λ (n : ℕ). IsBlockOf Holds a b (DoMeetWithin a b 1 n) run) (ends_at_last a s blocks l e) h.block_of)
+
+-- one block more, whose pieces were put behind the others one by one
+module _ {C : Type 0} (Holds : C → List Piece → Type 0) (a b : RawMesh) (s : ℕ) (face : 64 * s < length a.faces) where
+  -- what the faces before it are, as far as the face in front of its first one
+  pub first_before : (run : Block C) → AreFirstBlocks Holds a b s run → IsBlockOf Holds a b (DoMeetWithin a b 1 (64 * s + 1 - 1)) run
+  first_before run h =
+      let e : ends_at a s ≡ 64 * s + 1 - 1 = omega (arith, before a s face) in
+      subst (λ (n : ℕ). IsBlockOf Holds a b (DoMeetWithin a b 1 n) run) e h.block_of
+
+  pub first_put : (old new : Block C) (n : ℕ) → n ≡ ends_at a (s + 1) → AreFirstBlocks Holds a b s old → IsBlockOf Holds a b (DoMeetWithin a b 1 n) new → new.count ≤ old.count + clip_count a b (64 * s + 1) n
+      → AreFirstBlocks Holds a b (s + 1) new
+  first_put old new n e h k few = record {
+    block_of = subst (λ (m : ℕ). IsBlockOf Holds a b (DoMeetWithin a b 1 m) new) e k;
+    few = omega (arith, h.few, few, ap (clip_count a b (64 * s + 1)) e, clipped_more a b s face);
+  }
+
+  pub first_fits : (run : Block C) → length a.faces ≤ 1048576 → length b.faces ≤ 1048576 → AreFirstBlocks Holds a b s run → run.count < 2 ^ 63
+  first_fits run m n h = omega (arith, h.few, clipped_fits a b s m n)
 
 -- one block more
 module _ {C D : Type 0} (Holds : C → List Piece → Type 0) (HoldsMore : D → List Piece → Type 0) (a b : RawMesh) (s : ℕ) (face : 64 * s < length a.faces) where

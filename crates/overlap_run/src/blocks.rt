@@ -1,10 +1,10 @@
 // A block of source faces: its pieces, or how many there are.
-ghost use Rattle.std.specs.Prelude.{◌≡◌, ℕ, ◌+◌, ◌*◌, ◌<◌, ◌≤◌, ◌^◌, List, IfOk, OnOk, length, min};
+ghost use Rattle.std.specs.Prelude.{◌≡◌, ℕ, ◌+◌, ◌-◌, ◌*◌, ◌<◌, ◌≤◌, ◌^◌, List, IfOk, OnOk, length, min};
 ghost use Rattle.vec_exact.specs.declared.RawMesh.{RawMesh};
 ghost use Rattle.cell_index.specs.IndexOf.{IsIndexOf};
 ghost use Rattle.clip.specs.declared.pieces.Piece.{Piece};
 ghost use Rattle.overlap_run.specs.declared.blocks.Stretch.{Stretch};
-ghost use Rattle.overlap_run.specs.Parts.{IsBlockOf, IsNumberedBlock, IsWaitingBlock, TakesBlock, StandsIn, HoldsSome, DoMeetWithin, clip_count};
+ghost use Rattle.overlap_run.specs.Parts.{IsBlockOf, IsNumberedBlock, AreFirstBlocks, IsWaitingBlock, TakesBlock, StandsIn, HoldsSome, DoMeetWithin, clip_count};
 
 use crate::Gate;
 use crate::faces::clip_face;
@@ -31,6 +31,40 @@ pub struct Block<C = Pieces> {
     pub pieces: C,
 }
 
+// Puts the pieces of the source faces from `from` to `to`, which count from 1, behind those of the
+// faces before them. Each is clipped with its candidates among the faces of `b`.
+fn extend_block<C: PieceList, L: Ledger>(
+    alloc: Global,
+    a: &Mesh,
+    b: &Mesh,
+    index: &Index,
+    from: u32,
+    to: u32,
+    block: &mut Block<C>,
+    steps: &mut Steps<L>,
+) -> Result<(), NoMemory>
+    requires from { (1 ≤ from) × (from ≤ to + 1) }
+    requires to { to ≤ length a.now.faces }
+    requires index { IsIndexOf index.now b.now }
+    requires room { block.old.count < 2 ^ 63 }
+    ensures block { (first : ℕ) → first ≤ from
+        → IsBlockOf C.holds a.now b.now (DoMeetWithin a.now b.now first (from - 1)) block.old
+        → OnOk result (IsBlockOf C.holds a.now b.now (DoMeetWithin a.now b.now first to) block.new) }
+    ensures few { OnOk result (block.new.count ≤ block.old.count + clip_count a.now b.now from to) }
+    ensures ticks { OnOk result (steps.new ≡ steps.old + clip_count a.now b.now from to) }
+    ensures most { steps.new ≤ steps.old + clip_count a.now b.now from to }
+{
+    // The counts say that all numbers fit.
+    let _source_faces = face_count(a);
+    let _target_faces = face_count(b);
+    let mut targets = Vec::new(alloc);
+    for i in from..to + 1 {
+        find_candidates(index, a, i, &mut targets)?;
+        clip_face(alloc, a, i, b, &targets, block, steps)?;
+    }
+    Ok(())
+}
+
 /// The block of the source faces from `from` to `to` of `a`, which count from 1: each is clipped with
 /// its candidates among the faces of `b`, whose index is `index`. There is no face where `from` is
 /// `to` + 1. Its only error is want of memory.
@@ -53,18 +87,11 @@ pub fn clip_block<C: PieceList, L: Ledger>(
     ensures ticks { OnOk result (steps.new ≡ steps.old + clip_count a.now b.now from to) }
     ensures most { steps.new ≤ steps.old + clip_count a.now b.now from to }
 {
-    // The counts say that all numbers fit.
-    let _source_faces = face_count(a);
-    let _target_faces = face_count(b);
     let mut block = Block {
         count: 0,
         pieces: C::none(alloc),
     };
-    let mut targets = Vec::new(alloc);
-    for i in from..to + 1 {
-        find_candidates(index, a, i, &mut targets)?;
-        clip_face(alloc, a, i, b, &targets, &mut block, steps)?;
-    }
+    extend_block(alloc, a, b, index, from, to, &mut block, steps)?;
     Ok(block)
 }
 
@@ -102,22 +129,34 @@ pub fn numbered_block<C: PieceList, G: Gate, L: Ledger>(
     Ok(block)
 }
 
-// Puts the pieces of one block more behind those of the blocks so far. Past the limit all pieces are
-// dropped, and the counts go on.
-pub fn take_block<C: PieceList>(
+// Puts the pieces of block s, between the calls of the gate, behind those of the blocks before it.
+pub fn next_block<C: PieceList, G: Gate, L: Ledger>(
     alloc: Global,
+    a: &Mesh,
+    b: &Mesh,
+    index: &Index,
+    gate: &G,
+    s: u32,
     run: &mut Block<C>,
-    block: Block<C>,
+    steps: &mut Steps<L>,
 ) -> Result<(), NoMemory>
-    requires room { run.old.count + block.count < 2 ^ 64 }
-    ensures { OnOk result (TakesBlock C.holds C.holds run.old block run.new) }
+    requires index { IsIndexOf index.now b.now }
+    requires block { 64 * s < length a.now.faces }
+    requires run { AreFirstBlocks C.holds a.now b.now s run.old }
+    ensures run { OnOk result (AreFirstBlocks C.holds a.now b.now (s + 1) run.new) }
+    ensures ticks { let last = min (length a.now.faces) (64 * (s + 1)) in
+        OnOk result (steps.new ≡ steps.old + clip_count a.now b.now (64 * s + 1) last) }
+    ensures most { let last = min (length a.now.faces) (64 * (s + 1)) in
+        steps.new ≤ steps.old + clip_count a.now b.now (64 * s + 1) last }
 {
-    run.count += block.count;
-    if run.count > GREATEST_COUNT {
-        run.pieces = C::none(alloc);
-        return Ok(());
-    }
-    run.pieces.append(block.pieces)?;
+    // The counts say that all numbers fit.
+    let _target_faces = face_count(b);
+    let faces = face_count(a);
+    let from = BLOCK_SIZE * s + 1;
+    let to = faces.min(BLOCK_SIZE * (s + 1));
+    gate.enter(s);
+    extend_block(alloc, a, b, index, from, to, run, steps)?;
+    gate.leave(s);
     Ok(())
 }
 

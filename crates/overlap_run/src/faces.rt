@@ -11,7 +11,7 @@ ghost use Rattle.overlap_run.specs.Parts.{AddsPiece, TakesPair, IsBlockOf, DoMee
 use crate::Block;
 use crate::blocks::GREATEST_COUNT;
 use crate::rings::piece_of_ring;
-use clip::{Outline, PieceList, Ring, clip_outlines, outline_of, read_outline};
+use clip::{Outline, PieceList, Ring, clip_next, outline_of};
 use mesh_check::Mesh;
 use std::alloc::Global;
 use std::sync::ledger::Ledger;
@@ -74,8 +74,7 @@ fn clip_pair<C: PieceList, L: Ledger>(
     ensures few { OnOk result (block.new.count ≤ block.old.count + 1) }
     ensures tick { steps.new ≡ steps.old + 1 }
 {
-    read_outline(b, j, g);
-    let Some(ring) = clip_outlines(f, g, a, i, b, j, steps) else {
+    let Some(ring) = clip_next(f, g, a, i, b, j, steps) else {
         return Ok(());
     };
     add_piece(alloc, a, i, f, b, j, g, ring, block)

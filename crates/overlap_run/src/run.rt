@@ -5,7 +5,7 @@ ghost use Rattle.overlap_run.specs.Pairs.{DoMeet, IsPairCount};
 ghost use Rattle.overlap_run.specs.Whole.{HoldsOverlap, IsOverlapOf, IsRefusalOf};
 ghost use Rattle.overlap_run.specs.Parts.{DoMeetWithin, IsBlockOf, TakesBlock, clip_count};
 
-use crate::blocks::{BLOCK_SIZE, GREATEST_COUNT, numbered_block, take_block};
+use crate::blocks::{BLOCK_SIZE, GREATEST_COUNT, next_block};
 use crate::workers::shared_out;
 use crate::{Block, Gate, RunFault};
 use cell_index::{Index, build};
@@ -39,8 +39,7 @@ pub fn ascending<C: PieceList, G: Gate, L: Ledger>(
         pieces: C::none(alloc),
     };
     for s in 0..faces.div_ceil(BLOCK_SIZE) {
-        let block = numbered_block(alloc, a, b, index, gate, s, steps)?;
-        take_block(alloc, &mut run, block)?;
+        next_block(alloc, a, b, index, gate, s, &mut run, steps)?;
     }
     Ok(run)
 }

@@ -1,9 +1,6 @@
 use Rattle.clip.specs.Outlines.{nodes_of}
-use Rattle.clip.proofs.Separated.{apart, meets_turned}
+use Rattle.clip.proofs.Separated.{apart}
 use Rattle.clip.proofs.cuts.ring_of_outlines.Goals as goal
 
 pub returns-then-outline_keeps_off : goal.returns-then-outline_keeps_off
 returns-then-outline_keeps_off c = apart (nodes_of c.args.f.now) (nodes_of c.args.g.now) c.requires.g.accepted (c.outline_keeps_off.ensures c.if-outline_keeps_off.true)
-
-pub returns-in-None : goal.returns-in-None
-returns-in-None c = λ m. apart (nodes_of c.args.g.now) (nodes_of c.args.f.now) c.requires.f.accepted c.in-None.ensures (meets_turned (nodes_of c.args.f.now) (nodes_of c.args.g.now) m)

@@ -1,6 +1,6 @@
 use Rattle.std.proofs.Common.{◌+◌, ◌≤◌, refl, ap, ◌∙◌, arith}
 use Rattle.std.specs.Int.{div_ceil}
-use Rattle.overlap_run.proofs.NumberedBlocks.{has_face, clipped_none, clipped_more, clipped_at_most, first_none, first_more, room_for, first_all, ends_at_last}
+use Rattle.overlap_run.proofs.NumberedBlocks.{has_face, clipped_none, clipped_more, clipped_at_most, first_none, first_all, ends_at_last}
 use Rattle.overlap_run.specs.Parts.{clip_count}
 use Rattle.overlap_run.proofs.run.ascending.Goals as goal
 
@@ -13,36 +13,17 @@ loop-s-init g c =
       ticks = omega (arith, clipped_none a b);
     }
 
-pub numbered_block-requires-clause-block : goal.numbered_block-requires-clause-block
-numbered_block-requires-clause-block g c =
+pub next_block-requires-clause-block : goal.next_block-requires-clause-block
+next_block-requires-clause-block g c =
     has_face c.args.a.now c.loop-s.s c.div_ceil-s-end.result c.loop-s-test.true (c.div_ceil-s-end.ensures ∙ ap (λ n. div_ceil n 64) c.face_count-faces.ensures.count)
 
-pub returns-in_err-block-clause-most : goal.returns-in_err-block-clause-most
-returns-in_err-block-clause-most g c =
+pub returns-in_err-next_block-clause-most : goal.returns-in_err-next_block-clause-most
+returns-in_err-next_block-clause-most g c =
     let a = c.args.a.now in
     let b = c.args.b.now in
     let s = c.loop-s.s in
     let face = has_face a s c.div_ceil-s-end.result c.loop-s-test.true (c.div_ceil-s-end.ensures ∙ ap (λ n. div_ceil n 64) c.face_count-faces.ensures.count) in
-    omega (arith, c.loop-s.invariant.ticks, c.numbered_block.ensures.most, clipped_more a b s face, clipped_at_most a b (s + 1))
-
-pub take_block-requires : goal.take_block-requires
-take_block-requires g c =
-    let a = c.args.a.now in
-    let b = c.args.b.now in
-    let s = c.loop-s.s in
-    let face = has_face a s c.div_ceil-s-end.result c.loop-s-test.true (c.div_ceil-s-end.ensures ∙ ap (λ n. div_ceil n 64) c.face_count-faces.ensures.count) in
-    record {
-      room = room_for g.C.PieceList.holds g.C.PieceList.holds a b s face c.loop-s.run c.in_ok-block.block c.face_count-faces.ensures.accepted.counts.face_limit
-          c.face_count-target_faces.ensures.accepted.counts.face_limit c.loop-s.invariant.run c.in_ok-block.ensures.block;
-    }
-
-pub returns-in_err-take_block-clause-most : goal.returns-in_err-take_block-clause-most
-returns-in_err-take_block-clause-most g c =
-    let a = c.args.a.now in
-    let b = c.args.b.now in
-    let s = c.loop-s.s in
-    let face = has_face a s c.div_ceil-s-end.result c.loop-s-test.true (c.div_ceil-s-end.ensures ∙ ap (λ n. div_ceil n 64) c.face_count-faces.ensures.count) in
-    omega (arith, c.loop-s.invariant.ticks, c.in_ok-block.ensures.ticks, clipped_more a b s face, clipped_at_most a b (s + 1))
+    omega (arith, c.loop-s.invariant.ticks, c.next_block.ensures.most, clipped_more a b s face, clipped_at_most a b (s + 1))
 
 pub loop-s-preserved : goal.loop-s-preserved
 loop-s-preserved g c =
@@ -51,8 +32,8 @@ loop-s-preserved g c =
     let s = c.loop-s.s in
     let face = has_face a s c.div_ceil-s-end.result c.loop-s-test.true (c.div_ceil-s-end.ensures ∙ ap (λ n. div_ceil n 64) c.face_count-faces.ensures.count) in
     record {
-      run = first_more g.C.PieceList.holds g.C.PieceList.holds a b s face c.loop-s.run c.in_ok-block.block c.take_block.new.run c.loop-s.invariant.run c.in_ok-block.ensures.block c.in_ok-take_block.ensures;
-      ticks = omega (arith, c.loop-s.invariant.ticks, c.in_ok-block.ensures.ticks, clipped_more a b s face);
+      run = c.in_ok-next_block.ensures.run;
+      ticks = omega (arith, c.loop-s.invariant.ticks, c.in_ok-next_block.ensures.ticks, clipped_more a b s face);
     }
 
 pub returns-clause-run : goal.returns-clause-run
