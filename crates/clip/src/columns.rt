@@ -174,9 +174,7 @@ fn put_ring(numbers: &mut Vec<i8>, ring: &Ring) -> Result<(), NoMemory>
 fn put_corner(numbers: &mut Vec<i32>, corner: &[i32; 3]) -> Result<(), NoMemory>
     ensures { OnOk result (numbers.new.items ≡ numbers.old.items ++ triple_of corner.now) }
 {
-    numbers.push(corner[0])?;
-    numbers.push(corner[1])?;
-    numbers.push(corner[2])?;
+    numbers.extend_from_slice(&[corner[0], corner[1], corner[2]])?;
     Ok(())
 }
 
