@@ -12,8 +12,6 @@ mod lens;
 mod names;
 mod places;
 mod reading;
-#[cfg(test)]
-mod tests;
 mod values;
 mod variables;
 mod vars;

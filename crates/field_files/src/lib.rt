@@ -7,8 +7,6 @@ mod finding;
 mod frame;
 mod reading;
 mod shape;
-#[cfg(test)]
-mod tests;
 
 pub use document::{field_doc, masked_field_doc};
 use exodus_mesh::NameFault;

@@ -9,8 +9,6 @@ mod lookup;
 mod parts;
 mod placing;
 mod reading;
-#[cfg(test)]
-mod tests;
 mod values;
 
 pub use fault::NcFault;

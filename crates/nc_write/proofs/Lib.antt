@@ -4,4 +4,3 @@ pub mod Records
 pub mod Vsizes
 pub mod Places
 pub mod Standing
-mod Samples

@@ -3,4 +3,3 @@ pub mod Widths
 pub mod Extents
 pub mod File
 pub mod Form
-pub mod Samples

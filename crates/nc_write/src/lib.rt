@@ -9,8 +9,6 @@ mod lists;
 mod sizes;
 mod spell;
 pub mod tags;
-#[cfg(test)]
-mod tests;
 mod writing;
 
 pub use lists::{Bytes8, DimIds, DocAtts, DocDims, DocVars, Name};

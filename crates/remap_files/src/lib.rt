@@ -11,14 +11,10 @@ mod lengths;
 mod map_document;
 mod map_finding;
 mod map_reading;
-#[cfg(test)]
-mod map_tests;
 mod map_values;
 mod names;
 mod reading;
 mod rows;
-#[cfg(test)]
-mod tests;
 mod vars;
 
 pub use column_document::{columns_doc, columns_length};

@@ -17,8 +17,3 @@ pub use mem_files::{MemFiles, Torn};
 pub use mem_sink::MemSink;
 pub use sink::Sink;
 pub use steady::{SteadyFiles, SteadySink};
-
-#[cfg(test)]
-mod replacing_tests;
-#[cfg(test)]
-mod tests;

@@ -11,7 +11,7 @@ use Rattle.nc_write.specs.Widths.{width, begin_width, number_bytes, offset, code
 use Rattle.nc_write.specs.Extents.{lens_of, has_several, piece_len, product_of, has_records, piece_count}
 use Rattle.nc_write.specs.File.{version_of, name_bytes, tagged, dimension, attribute, vsize, shape, variable, header, header_len, fixed_data, record_data, record_of, data_of, file_of, numbers_of}
 use Rattle.nc_write.specs.Form.{IsWellFormed, full_lens}
-use Rattle.nc_write.specs.Samples.{one_record_variable, two_record_variables, smallest_cubed_sphere, no_pieces, without_records}
+use Rattle.file_rows.specs.Samples.{one_record_variable, two_record_variables, smallest_cubed_sphere, no_pieces, without_records}
 
 -- the rules by recursion over the lists of a document
 record Rules (doc : NcDoc) : Type 0 where

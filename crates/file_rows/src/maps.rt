@@ -1,10 +1,11 @@
 // The map of two rows, by its numbers, and its file.
 ghost use Rattle.std.specs.Prelude.{◌≤◌, length, IfOk};
 
-use crate::{FileFault, MapVars, map_doc, map_from, read_map};
+use crate::compared::same;
+use crate::spelled::header_of;
 use map_rows::Map;
-use nc_format::read_header;
 use nc_write::{DimIds, encode};
+use remap_files::{FileFault, MapVars, map_doc, map_from, read_map};
 use std::test::Fail;
 
 // The map of two sources and one target, by the numbers of its variables.
@@ -45,7 +46,7 @@ fn rows_and_areas(rt: HostRuntime) -> Result<(), Fail> {
     ];
     for (col, s, area_a, area_b, want) in rows {
         let map = map_of(&rt, col, s, area_a, area_b)?;
-        assert_eq!(rt; map.err(), want);
+        same(&rt, &map.err(), &want);
     }
     Ok(())
 }
@@ -74,13 +75,11 @@ fn file_of(rt: &HostRuntime, map: &Map) -> Result<Vec<u8>, Fail>
 fn a_map_is_written_and_read(rt: HostRuntime) -> Result<(), Fail> {
     let map = two_rows(&rt)?;
     let bytes = file_of(&rt, &map)?;
-    assert_eq!(rt; bytes.len(), 472);
-    let Ok(file) = read_header(rt.alloc(), &bytes, bytes.len() as u64) else {
-        return Err("a header was expected".into());
-    };
+    same(&rt, &bytes.len(), &472);
+    let file = header_of(rt.alloc(), &bytes)?;
     let Ok(again) = read_map(rt.alloc(), &file, &bytes) else {
         return Err("a map was expected".into());
     };
-    assert_eq!(rt; again.n_a, 2);
+    same(&rt, &again.n_a, &2);
     Ok(())
 }

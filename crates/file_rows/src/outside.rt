@@ -1,15 +1,12 @@
 // What no clause says: real files and writers, and that calls succeed.
-use super::*;
-use std::fmt::Debug;
+use crate::compared::same;
+use remap_io::{
+    FileErr, Files, HostFiles, HostSink, MemFiles, MemSink, PutErr, Sink, SteadyFiles, SteadySink,
+    Torn,
+};
 use std::fs;
 use std::io::{self, Error, ErrorKind, Write};
-use std::process::Abort;
 use std::test::Fail;
-
-// Ends the test where the two differ. A call is cheaper to prove than an assertion, which prints both.
-pub fn same<T: PartialEq + Debug>(rt: &impl Abort, got: &T, want: &T) {
-    assert_eq!(rt; got, want);
-}
 
 #[test]
 fn real_files_are_replaced_and_read(rt: HostRuntime) -> Result<(), Fail> {

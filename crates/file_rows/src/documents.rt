@@ -1,75 +1,21 @@
 // Files of five documents, by their bytes.
 ghost use Rattle.std.specs.Prelude.{◌≡◌, [], ◌∷◌, IfOk, codes};
 ghost use Rattle.nc_write.specs.declared.Values.TheVariants.{Byte, Int};
-ghost use Rattle.nc_write.specs.Samples.{dimension_of, attribute_of, variable_of, records_of, upwards, downwards, mesh_dims, one_record_variable, two_record_variables, without_records, smallest_cubed_sphere, no_pieces};
+ghost use Rattle.nc_write.specs.Form.{IsWellFormed};
+ghost use Rattle.file_rows.specs.Samples.{dimension_of, attribute_of, variable_of, records_of, upwards, downwards, mesh_dims, one_record_variable, two_record_variables, without_records, smallest_cubed_sphere, no_pieces};
 
-use crate::{
+use crate::compared::same;
+use crate::spelled::{
+    NO_PIECES, ONE_RECORD_VARIABLE, SMALLEST_CUBED_SPHERE, TWO_RECORD_VARIABLES, WITHOUT_RECORDS,
+    bytes_of,
+};
+use nc_write::{
     Bytes8, DimIds, DocAtt, DocAtts, DocDim, DocDims, DocVar, DocVars, Name, NcDoc, Values, encode,
 };
 use std::alloc::{AllocError, Global};
-use std::test::*;
+use std::process::Abort;
+use std::test::Fail;
 use vec_exact::{Ints, Longs};
-
-// Records of 3 bytes: the variable begins at 100, and there is no padding.
-const ONE_RECORD_VARIABLE: [u8; 109] = [
-    67, 68, 70, 2, 0, 0, 0, 3, 0, 0, 0, 10, 0, 0, 0, 2, 0, 0, 0, 1, 116, 0, 0, 0, 0, 0, 0, 0, 0, 0,
-    0, 1, 107, 0, 0, 0, 0, 0, 0, 3, 0, 0, 0, 0, 0, 0, 0, 0, 0, 0, 0, 11, 0, 0, 0, 1, 0, 0, 0, 1,
-    98, 0, 0, 0, 0, 0, 0, 2, 0, 0, 0, 0, 0, 0, 0, 1, 0, 0, 0, 0, 0, 0, 0, 0, 0, 0, 0, 1, 0, 0, 0,
-    4, 0, 0, 0, 0, 0, 0, 0, 100, 1, 2, 3, 4, 5, 6, 7, 8, 9,
-];
-
-// Records of two times 4 bytes: the variables begin at 144 and 148.
-const TWO_RECORD_VARIABLES: [u8; 168] = [
-    67, 68, 70, 2, 0, 0, 0, 3, 0, 0, 0, 10, 0, 0, 0, 2, 0, 0, 0, 1, 116, 0, 0, 0, 0, 0, 0, 0, 0, 0,
-    0, 1, 107, 0, 0, 0, 0, 0, 0, 3, 0, 0, 0, 0, 0, 0, 0, 0, 0, 0, 0, 11, 0, 0, 0, 2, 0, 0, 0, 1,
-    98, 0, 0, 0, 0, 0, 0, 2, 0, 0, 0, 0, 0, 0, 0, 1, 0, 0, 0, 0, 0, 0, 0, 0, 0, 0, 0, 1, 0, 0, 0,
-    4, 0, 0, 0, 0, 0, 0, 0, 144, 0, 0, 0, 1, 99, 0, 0, 0, 0, 0, 0, 2, 0, 0, 0, 0, 0, 0, 0, 1, 0, 0,
-    0, 0, 0, 0, 0, 0, 0, 0, 0, 1, 0, 0, 0, 4, 0, 0, 0, 0, 0, 0, 0, 148, 1, 2, 3, 129, 255, 254,
-    253, 129, 4, 5, 6, 129, 252, 251, 250, 129, 7, 8, 9, 129, 249, 248, 247, 129,
-];
-
-// The mesh file of one face a panel.
-const SMALLEST_CUBED_SPHERE: [u8; 440] = [
-    67, 68, 70, 2, 0, 0, 0, 0, 0, 0, 0, 10, 0, 0, 0, 6, 0, 0, 0, 7, 110, 117, 109, 95, 100, 105,
-    109, 0, 0, 0, 0, 3, 0, 0, 0, 9, 110, 117, 109, 95, 110, 111, 100, 101, 115, 0, 0, 0, 0, 0, 0,
-    8, 0, 0, 0, 8, 110, 117, 109, 95, 101, 108, 101, 109, 0, 0, 0, 6, 0, 0, 0, 10, 110, 117, 109,
-    95, 101, 108, 95, 98, 108, 107, 0, 0, 0, 0, 0, 1, 0, 0, 0, 14, 110, 117, 109, 95, 101, 108, 95,
-    105, 110, 95, 98, 108, 107, 49, 0, 0, 0, 0, 0, 6, 0, 0, 0, 15, 110, 117, 109, 95, 110, 111,
-    100, 95, 112, 101, 114, 95, 101, 108, 49, 0, 0, 0, 0, 4, 0, 0, 0, 0, 0, 0, 0, 0, 0, 0, 0, 11,
-    0, 0, 0, 2, 0, 0, 0, 5, 99, 111, 111, 114, 100, 0, 0, 0, 0, 0, 0, 2, 0, 0, 0, 0, 0, 0, 0, 1, 0,
-    0, 0, 0, 0, 0, 0, 0, 0, 0, 0, 4, 0, 0, 0, 96, 0, 0, 0, 0, 0, 0, 0, 248, 0, 0, 0, 8, 99, 111,
-    110, 110, 101, 99, 116, 49, 0, 0, 0, 2, 0, 0, 0, 4, 0, 0, 0, 5, 0, 0, 0, 0, 0, 0, 0, 0, 0, 0,
-    0, 4, 0, 0, 0, 96, 0, 0, 0, 0, 0, 0, 1, 88, 255, 255, 255, 255, 255, 255, 255, 255, 255, 255,
-    255, 255, 255, 255, 255, 255, 0, 0, 0, 1, 0, 0, 0, 1, 0, 0, 0, 1, 0, 0, 0, 1, 255, 255, 255,
-    255, 255, 255, 255, 255, 0, 0, 0, 1, 0, 0, 0, 1, 255, 255, 255, 255, 255, 255, 255, 255, 0, 0,
-    0, 1, 0, 0, 0, 1, 255, 255, 255, 255, 0, 0, 0, 1, 255, 255, 255, 255, 0, 0, 0, 1, 255, 255,
-    255, 255, 0, 0, 0, 1, 255, 255, 255, 255, 0, 0, 0, 1, 0, 0, 0, 5, 0, 0, 0, 7, 0, 0, 0, 8, 0, 0,
-    0, 6, 0, 0, 0, 7, 0, 0, 0, 3, 0, 0, 0, 4, 0, 0, 0, 8, 0, 0, 0, 3, 0, 0, 0, 1, 0, 0, 0, 2, 0, 0,
-    0, 4, 0, 0, 0, 1, 0, 0, 0, 5, 0, 0, 0, 6, 0, 0, 0, 2, 0, 0, 0, 6, 0, 0, 0, 8, 0, 0, 0, 4, 0, 0,
-    0, 2, 0, 0, 0, 1, 0, 0, 0, 3, 0, 0, 0, 7, 0, 0, 0, 5,
-];
-
-// An overlap file without a piece.
-const NO_PIECES: [u8; 104] = [
-    67, 68, 70, 2, 0, 0, 0, 0, 0, 0, 0, 0, 0, 0, 0, 0, 0, 0, 0, 12, 0, 0, 0, 3, 0, 0, 0, 7, 102,
-    97, 99, 101, 115, 95, 97, 0, 0, 0, 0, 4, 0, 0, 0, 1, 0, 0, 0, 1, 0, 0, 0, 7, 102, 97, 99, 101,
-    115, 95, 98, 0, 0, 0, 0, 4, 0, 0, 0, 1, 0, 0, 0, 1, 0, 0, 0, 6, 112, 105, 101, 99, 101, 115, 0,
-    0, 0, 0, 0, 4, 0, 0, 0, 1, 0, 0, 0, 0, 0, 0, 0, 0, 0, 0, 0, 0,
-];
-
-// Version 5 without a record: the variables begin at 252 and 268.
-const WITHOUT_RECORDS: [u8; 268] = [
-    67, 68, 70, 5, 0, 0, 0, 0, 0, 0, 0, 0, 0, 0, 0, 10, 0, 0, 0, 0, 0, 0, 0, 2, 0, 0, 0, 0, 0, 0,
-    0, 1, 116, 0, 0, 0, 0, 0, 0, 0, 0, 0, 0, 0, 0, 0, 0, 0, 0, 0, 0, 1, 110, 0, 0, 0, 0, 0, 0, 0,
-    0, 0, 0, 2, 0, 0, 0, 12, 0, 0, 0, 0, 0, 0, 0, 1, 0, 0, 0, 0, 0, 0, 0, 10, 102, 105, 108, 108,
-    95, 118, 97, 108, 117, 101, 0, 0, 0, 0, 0, 4, 0, 0, 0, 0, 0, 0, 0, 1, 255, 255, 255, 255, 0, 0,
-    0, 11, 0, 0, 0, 0, 0, 0, 0, 2, 0, 0, 0, 0, 0, 0, 0, 1, 83, 0, 0, 0, 0, 0, 0, 0, 0, 0, 0, 1, 0,
-    0, 0, 0, 0, 0, 0, 1, 0, 0, 0, 0, 0, 0, 0, 0, 0, 0, 0, 0, 0, 0, 0, 10, 0, 0, 0, 0, 0, 0, 0, 16,
-    0, 0, 0, 0, 0, 0, 0, 252, 0, 0, 0, 0, 0, 0, 0, 1, 114, 0, 0, 0, 0, 0, 0, 0, 0, 0, 0, 2, 0, 0,
-    0, 0, 0, 0, 0, 0, 0, 0, 0, 0, 0, 0, 0, 1, 0, 0, 0, 0, 0, 0, 0, 0, 0, 0, 0, 0, 0, 0, 0, 4, 0, 0,
-    0, 0, 0, 0, 0, 8, 0, 0, 0, 0, 0, 0, 1, 12, 0, 0, 0, 0, 0, 0, 0, 5, 255, 255, 255, 255, 255,
-    255, 255, 250,
-];
 
 fn name(alloc: Global, text: &str) -> Result<Name, AllocError>
     ensures { IfOk result (λ n. n ≡ text.now) }
@@ -280,47 +226,47 @@ fn no_pieces(alloc: Global) -> Result<NcDoc, AllocError>
     })
 }
 
+// The file of the document has these bytes.
+fn has_file(rt: &impl Abort, alloc: Global, doc: &NcDoc, digits: &str) -> Result<(), Fail>
+    requires { IsWellFormed doc.now }
+{
+    let file = encode(alloc, doc).ok().ok_or("there is memory")?;
+    let want = bytes_of(alloc, digits)?;
+    same(rt, &file.as_slice(), &want.as_slice());
+    Ok(())
+}
+
 #[test]
 #[tactic(auto, using(crate::proofs::Samples::one_form))]
 fn writes_one_record_variable(rt: HostRuntime) -> Result<(), Fail> {
     let doc = one_record_variable(rt.alloc())?;
-    let file = encode(rt.alloc(), &doc).ok().ok_or("there is memory")?;
-    assert_eq!(rt; file.as_slice(), ONE_RECORD_VARIABLE.as_slice());
-    Ok(())
+    has_file(&rt, rt.alloc(), &doc, ONE_RECORD_VARIABLE)
 }
 
 #[test]
 #[tactic(auto, using(crate::proofs::Samples::two_form))]
 fn writes_two_record_variables(rt: HostRuntime) -> Result<(), Fail> {
     let doc = two_record_variables(rt.alloc())?;
-    let file = encode(rt.alloc(), &doc).ok().ok_or("there is memory")?;
-    assert_eq!(rt; file.as_slice(), TWO_RECORD_VARIABLES.as_slice());
-    Ok(())
+    has_file(&rt, rt.alloc(), &doc, TWO_RECORD_VARIABLES)
 }
 
 #[test]
 #[tactic(auto, using(crate::proofs::Samples::mesh_form))]
 fn writes_smallest_cubed_sphere(rt: HostRuntime) -> Result<(), Fail> {
     let doc = smallest_cubed_sphere(rt.alloc())?;
-    let file = encode(rt.alloc(), &doc).ok().ok_or("there is memory")?;
-    assert_eq!(rt; file.as_slice(), SMALLEST_CUBED_SPHERE.as_slice());
-    Ok(())
+    has_file(&rt, rt.alloc(), &doc, SMALLEST_CUBED_SPHERE)
 }
 
 #[test]
 #[tactic(auto, using(crate::proofs::Samples::none_form))]
 fn writes_no_pieces(rt: HostRuntime) -> Result<(), Fail> {
     let doc = no_pieces(rt.alloc())?;
-    let file = encode(rt.alloc(), &doc).ok().ok_or("there is memory")?;
-    assert_eq!(rt; file.as_slice(), NO_PIECES.as_slice());
-    Ok(())
+    has_file(&rt, rt.alloc(), &doc, NO_PIECES)
 }
 
 #[test]
 #[tactic(auto, using(crate::proofs::Samples::long_form))]
 fn writes_without_records(rt: HostRuntime) -> Result<(), Fail> {
     let doc = without_records(rt.alloc())?;
-    let file = encode(rt.alloc(), &doc).ok().ok_or("there is memory")?;
-    assert_eq!(rt; file.as_slice(), WITHOUT_RECORDS.as_slice());
-    Ok(())
+    has_file(&rt, rt.alloc(), &doc, WITHOUT_RECORDS)
 }

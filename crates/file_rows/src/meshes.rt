@@ -1,17 +1,18 @@
 // Rows of files of other hands: names, types and blocks.
-ghost use Rattle.std.specs.Prelude.{◌≤◌, ◌<◌, length, IfOk};
+ghost use Rattle.std.specs.Prelude.{◌≤◌, length};
 
-use crate::{NameFault, NameId, find_mesh, read_mesh};
+use crate::compared::same;
+use crate::spelled::{bytes_of, edited, header_of};
+use exodus_mesh::{NameFault, NameId, find_mesh, read_mesh};
 use mesh_check::check_counts;
-use nc_format::read_header;
 use std::test::Fail;
 use vec_exact::RawMesh;
 
 // A header without dimensions, attributes and variables.
 const EMPTY: &str = "4344460200000000000000000000000000000000000000000000000000000000";
 
-// Three nodes by `coordx`, `coordy` and `coordz`, and the blocks 1 2 3, then 1 1 2 3, then 1 2 3 1; all
-// of type BYTE.
+// Three nodes by `coordx`, `coordy` and `coordz`, and the blocks 1 2 3, then 1 1 2 3, then 1 2 3 1;
+// all of type BYTE.
 const THREE_BLOCKS: &str = "\
     43444602000000000000000a000000040000000a6e756d5f656c5f626c6b00000000000300000003\
     6f6e6500000000010000000574687265650000000000000300000004666f75720000000400000000\
@@ -36,42 +37,11 @@ const MISSING_BEFORE_KIND: &str = "\
     636f6e6e656374330000000200000001000000030000000000000000000000010000000400000000\
     0000015c01000081000000003f80000000000000010203810101020301020301";
 
-// The smallest cubed sphere, with `coord` of type DOUBLE.
-const DOUBLE_COORDINATES: &str = "\
-    43444602000000000000000a00000006000000076e756d5f64696d0000000003000000096e756d5f\
-    6e6f64657300000000000008000000086e756d5f656c656d000000060000000a6e756d5f656c5f62\
-    6c6b0000000000010000000e6e756d5f656c5f696e5f626c6b310000000000060000000f6e756d5f\
-    6e6f645f7065725f656c31000000000400000000000000000000000b0000000200000005636f6f72\
-    640000000000000200000000000000010000000000000000000000060000006000000000000000f8\
-    00000008636f6e6e6563743100000002000000040000000500000000000000000000000400000060\
-    0000000000000158ffffffffffffffffffffffffffffffff00000001000000010000000100000001\
-    ffffffffffffffff0000000100000001ffffffffffffffff0000000100000001ffffffff00000001\
-    ffffffff00000001ffffffff00000001ffffffff0000000100000005000000070000000800000006\
-    00000007000000030000000400000008000000030000000100000002000000040000000100000005\
-    00000006000000020000000600000008000000040000000200000001000000030000000700000005";
-
-fn digit(digit: u8) -> u8
-    ensures { result < 16 }
+fn fault_of(rt: &HostRuntime, bytes: &[u8]) -> Result<Option<NameFault>, Fail>
+    requires { length bytes.now ≤ 1000 }
 {
-    match digit {
-        b'0'..=b'9' => digit - b'0',
-        b'a'..=b'f' => digit - b'a' + 10,
-        _ => 0,
-    }
-}
-
-// The bytes of hexadecimal digits.
-fn bytes_of(rt: &HostRuntime, digits: &str) -> Result<Vec<u8>, Fail>
-    ensures { IfOk result (λ bytes. length bytes.items ≤ 440) }
-{
-    let mut bytes = Vec::new(rt.alloc());
-    for pair in digits.as_bytes().chunks_exact(2) {
-        bytes.push(16 * digit(pair[0]) + digit(pair[1]))?;
-    }
-    if bytes.len() > 440 {
-        return Err("too many bytes".into());
-    }
-    Ok(bytes)
+    let file = header_of(rt.alloc(), bytes)?;
+    Ok(find_mesh(rt.alloc(), &file).err())
 }
 
 #[test]
@@ -82,25 +52,23 @@ fn first_faults_of_names(rt: HostRuntime) -> Result<(), Fail> {
             MISSING_BEFORE_KIND,
             Some(NameFault::Missing(NameId::CoordZ)),
         ),
-        (DOUBLE_COORDINATES, Some(NameFault::Kind(NameId::Coord))),
         (THREE_BLOCKS, None),
     ];
     for (digits, want) in rows {
-        let bytes = bytes_of(&rt, digits)?;
-        let Ok(file) = read_header(rt.alloc(), &bytes, bytes.len() as u64) else {
-            return Err("a header was expected".into());
-        };
-        assert_eq!(rt; find_mesh(rt.alloc(), &file).err(), want);
+        let bytes = bytes_of(rt.alloc(), digits)?;
+        same(&rt, &fault_of(&rt, &bytes)?, &want);
     }
+    // The smallest cubed sphere, with `coord` of type DOUBLE.
+    let double = edited(rt.alloc(), &[(187, 6)])?;
+    let want = Some(NameFault::Kind(NameId::Coord));
+    same(&rt, &fault_of(&rt, &double)?, &want);
     Ok(())
 }
 
 fn mesh_in(rt: &HostRuntime, bytes: &[u8]) -> Result<RawMesh, Fail>
-    requires { length bytes.now ≤ 440 }
+    requires { length bytes.now ≤ 1000 }
 {
-    let Ok(file) = read_header(rt.alloc(), bytes, bytes.len() as u64) else {
-        return Err("a header was expected".into());
-    };
+    let file = header_of(rt.alloc(), bytes)?;
     let Ok(vars) = find_mesh(rt.alloc(), &file) else {
         return Err("names were expected".into());
     };
@@ -118,12 +86,13 @@ fn mesh_in(rt: &HostRuntime, bytes: &[u8]) -> Result<RawMesh, Fail>
 
 #[test]
 fn three_blocks(rt: HostRuntime) -> Result<(), Fail> {
-    let bytes = bytes_of(&rt, THREE_BLOCKS)?;
+    let bytes = bytes_of(rt.alloc(), THREE_BLOCKS)?;
     let raw = mesh_in(&rt, &bytes)?;
-    assert!(rt; raw.nodes.items.as_slice() == [[1, 0, 0], [0, 1, 0], [0, 0, 1]].as_slice());
-    assert_eq!(rt; raw.faces.items.len(), 3);
+    let nodes = [[1, 0, 0], [0, 1, 0], [0, 0, 1]];
+    same(&rt, &raw.nodes.items.as_slice(), &nodes.as_slice());
+    same(&rt, &raw.faces.items.len(), &3);
     for face in &raw.faces.items {
-        assert!(rt; face.items.as_slice() == [1, 2, 3].as_slice());
+        same(&rt, &face.items.as_slice(), &[1, 2, 3].as_slice());
     }
     Ok(())
 }

@@ -1,65 +1,23 @@
 // Files of the machine are replaced whole, or stay as they were.
-use crate::tests::same;
-use crate::{Files, HostFiles, PutErr};
-use std::fs::{self, Metadata, OpenFile, OpenOptions, Permissions};
-use std::io::{self, Error, ErrorKind, Read, Seek, SeekFrom, Write};
+use crate::compared::same;
+use remap_io::{Files, HostFiles, PutErr};
+use std::fs::{self, Metadata, OpenOptions, Permissions};
+use std::io;
 use std::os::unix::fs::PermissionsExt;
 use std::test::Fail;
 
-// A device without room: no file takes a byte.
+// A device without room: no file takes a byte, since each is opened for reading alone.
 #[derive(Drop)]
 struct Full<R: std::rt::Files>(R);
 
-#[derive(Drop)]
-struct FullFile<F: Read + Write + Seek + OpenFile + Drop>(F);
-
-impl<F: Read + Write + Seek + OpenFile + Drop> Read for FullFile<F> {
-    fn read(&mut self, buf: &mut [u8]) -> io::Result<usize> {
-        self.0.read(buf)
-    }
-}
-
-impl<F: Read + Write + Seek + OpenFile + Drop> Write for FullFile<F> {
-    fn write(&mut self, _buf: &[u8]) -> io::Result<usize> {
-        Err(Error::from(ErrorKind::StorageFull))
-    }
-
-    fn flush(&mut self) -> io::Result<()> {
-        self.0.flush()
-    }
-}
-
-impl<F: Read + Write + Seek + OpenFile + Drop> Seek for FullFile<F> {
-    fn seek(&mut self, to: SeekFrom) -> io::Result<u64> {
-        self.0.seek(to)
-    }
-}
-
-impl<F: Read + Write + Seek + OpenFile + Drop> OpenFile for FullFile<F> {
-    fn metadata(&self) -> io::Result<Metadata> {
-        self.0.metadata()
-    }
-
-    fn set_len(&self, size: u64) -> io::Result<()> {
-        self.0.set_len(size)
-    }
-
-    fn sync_all(&self) -> io::Result<()> {
-        self.0.sync_all()
-    }
-
-    fn sync_data(&self) -> io::Result<()> {
-        self.0.sync_data()
-    }
-}
-
 impl<R: std::rt::Files> std::rt::Files for Full<R> {
-    type File = FullFile<R::File>;
+    type File = R::File;
 
     type Dir = R::Dir;
 
-    fn open_file(&self, how: &OpenOptions, path: &str) -> io::Result<FullFile<R::File>> {
-        Ok(FullFile(self.0.open_file(how, path)?))
+    fn open_file(&self, how: &OpenOptions, path: &str) -> io::Result<R::File> {
+        let _opened = self.0.open_file(how, path)?;
+        fs::open(&self.0, path)
     }
 
     fn open_dir(&self, path: &str) -> io::Result<R::Dir> {

@@ -1,21 +1,23 @@
-// Files of other hands: fields with records, with dimensions that lead twice, and with fill values; and the
-// documents of what is made of them. The bytes are spelled by hand, by the netCDF classic format specification.
-ghost use Rattle.std.specs.Prelude.{◌≡◌, ◌≤◌, ◌<◌, ℕ, length, IfOk};
-ghost use Rattle.nc_format.specs.Header.{IsHeader};
+// Files of other hands: fields with records, with dimensions that lead twice, and with fill values;
+// and the documents of what is made of them. The bytes are spelled by hand, by the netCDF classic
+// format specification.
+ghost use Rattle.std.specs.Prelude.{◌≡◌, IfOk};
 ghost use Rattle.nc_format.specs.Sound.{IsSound};
 ghost use Rattle.nc_write.specs.Form.{IsWellFormed};
 ghost use Rattle.field_files.specs.FileHeader.{IsFileHeader};
 ghost use Rattle.field_files.specs.FieldShapes.{Fits};
 
-use crate::{
+use crate::compared::same;
+use crate::spelled::{bytes_of, header_of, ints};
+use exodus_mesh::{NameFault, NameId};
+use field_files::{
     FieldFault, FieldVar, field_doc, fill_value, find_field, fit_field, masked_field_doc,
     read_field,
 };
-use exodus_mesh::{NameFault, NameId};
-use nc_format::{NcFile, read_header};
+use nc_format::NcFile;
 use nc_write::{NcDoc, length_of};
-use std::test::*;
-use vec_exact::{Ints, Longs};
+use std::test::Fail;
+use vec_exact::Longs;
 
 // Three records of `x(t, k)`, INT, with k of length 2: -1 1, -5 1, -5 0.
 const THREE_RECORDS: &str = "\
@@ -35,9 +37,9 @@ const OCTANTS: &str = "\
     00000001000000017800000000000001000000000000000000000000000000040000002000000050\
     0000000100000002000000030000000400000005000000060000000700000008";
 
-// The dimensions lat 2, lon 3, t (one record) and n_b 2. `x(lat, lon)`, BYTE, is 1 to 6 and has the fill
-// values 7, SHORT, and -1, BYTE; `y(lat, lat, lon)`, SHORT, is 1 to 12 and has -5, SHORT. `z(lon)` is FLOAT.
-// `u` has no dimension; `w(n_b, lon)` and `r(t)` are BYTE.
+// The dimensions lat 2, lon 3, t (one record) and n_b 2. `x(lat, lon)`, BYTE, is 1 to 6 and has the
+// fill values 7, SHORT, and -1, BYTE; `y(lat, lat, lon)`, SHORT, is 1 to 12 and has -5, SHORT.
+// `z(lon)` is FLOAT. `u` has no dimension; `w(n_b, lon)` and `r(t)` are BYTE.
 const MIXED: &str = "\
     43444601000000010000000a00000004000000036c61740000000002000000036c6f6e0000000003\
     000000017400000000000000000000036e5f62000000000200000000000000000000000b00000006\
@@ -52,42 +54,6 @@ const MIXED: &str = "\
     000100020003000400050006000700080009000a000b000c3f800000400000004040000000000009\
     010203040506818107";
 
-fn digit(digit: u8) -> u8
-    ensures { result < 16 }
-{
-    match digit {
-        b'0'..=b'9' => digit - b'0',
-        b'a'..=b'f' => digit - b'a' + 10,
-        _ => 0,
-    }
-}
-
-// The bytes of hexadecimal digits.
-fn bytes_of(rt: &HostRuntime, digits: &str) -> Result<Vec<u8>, Fail>
-    ensures { IfOk result (λ bytes. length bytes.items ≤ 1000) }
-{
-    let mut bytes = Vec::new(rt.alloc());
-    for pair in digits.as_bytes().chunks_exact(2) {
-        bytes.push(16 * digit(pair[0]) + digit(pair[1]))?;
-    }
-    if bytes.len() > 1000 {
-        return Err("too many bytes".into());
-    }
-    Ok(bytes)
-}
-
-fn header_of(rt: &HostRuntime, bytes: &[u8]) -> Result<NcFile, Fail>
-    requires { length bytes.now ≤ 2147483647 }
-    ensures file { IfOk result IsFileHeader }
-    ensures sound { IfOk result IsSound }
-    ensures header { IfOk result (λ file. IsHeader bytes.now (length bytes.now) file) }
-{
-    match read_header(rt.alloc(), bytes, bytes.len() as u64) {
-        Ok(file) => Ok(file),
-        Err(_) => Err("a header was expected".into()),
-    }
-}
-
 fn fitted(file: &NcFile, name: &[u8], n_a: u32) -> Result<FieldVar, Fail>
     requires file { IsFileHeader file.now }
     requires sound { IsSound file.now }
@@ -100,14 +66,6 @@ fn fitted(file: &NcFile, name: &[u8], n_a: u32) -> Result<FieldVar, Fail>
         Ok(field) => Ok(field),
         Err(_) => Err("a fit was expected".into()),
     }
-}
-
-fn ints(rt: &HostRuntime, numbers: &[i32]) -> Result<Ints, Fail>
-    ensures { IfOk result (λ ints. ints ≡ numbers.now) }
-{
-    Ok(Ints {
-        items: numbers.to_vec(rt.alloc())?,
-    })
 }
 
 fn longs(rt: &HostRuntime, numbers: &[i64]) -> Result<Longs, Fail>
@@ -142,7 +100,7 @@ fn document(
         file,
         field,
         n_b,
-        ints(rt, whole)?,
+        ints(rt.alloc(), whole)?,
         longs(rt, rest)?,
     ) {
         Ok(doc) => Ok(doc),
@@ -150,62 +108,68 @@ fn document(
     }
 }
 
+// How many dimensions lead, and how many slices they make.
+fn shape_of(field: FieldVar) -> (usize, u32) {
+    (field.leading, field.slices)
+}
+
 #[test]
 fn three_records(rt: HostRuntime) -> Result<(), Fail> {
-    let bytes = bytes_of(&rt, THREE_RECORDS)?;
-    let file = header_of(&rt, &bytes)?;
+    let bytes = bytes_of(rt.alloc(), THREE_RECORDS)?;
+    let file = header_of(rt.alloc(), &bytes)?;
     let Ok(found) = read_field(rt.alloc(), &file, b"x", 2, &bytes) else {
         return Err("a field was expected".into());
     };
-    assert_eq!(rt; found.field.leading, 1);
-    assert_eq!(rt; found.field.slices, 3);
-    assert!(rt; found.values.items.as_slice() == [-1, 1, -5, 1, -5, 0].as_slice());
-    assert!(rt; found.fill.is_none());
+    same(&rt, &shape_of(found.field), &(1, 3));
+    same(
+        &rt,
+        &found.values.items.as_slice(),
+        &[-1, 1, -5, 1, -5, 0].as_slice(),
+    );
+    same(&rt, &found.fill, &None);
     let doc = document(&rt, &file, b"x", 2, 1, &[0, -1, -2], &[1, 0, 1])?;
-    assert_eq!(rt; doc.records, 3);
-    assert_eq!(rt; length_of(&doc), 264);
+    same(&rt, &doc.records, &3);
+    same(&rt, &length_of(&doc), &264);
     Ok(())
 }
 
 #[test]
 fn no_record(rt: HostRuntime) -> Result<(), Fail> {
-    let bytes = bytes_of(&rt, NO_RECORD)?;
-    let file = header_of(&rt, &bytes)?;
+    let bytes = bytes_of(rt.alloc(), NO_RECORD)?;
+    let file = header_of(rt.alloc(), &bytes)?;
     let field = fitted(&file, b"x", 2)?;
-    assert_eq!(rt; field.slices, 0);
+    same(&rt, &field.slices, &0);
     let doc = document(&rt, &file, b"x", 2, 1, &[], &[])?;
-    assert_eq!(rt; length_of(&doc), 228);
+    same(&rt, &length_of(&doc), &228);
     Ok(())
 }
 
 #[test]
 fn octants(rt: HostRuntime) -> Result<(), Fail> {
-    let bytes = bytes_of(&rt, OCTANTS)?;
-    let file = header_of(&rt, &bytes)?;
+    let bytes = bytes_of(rt.alloc(), OCTANTS)?;
+    let file = header_of(rt.alloc(), &bytes)?;
     let whole = [1, 2, 3, 4, 5, 6, 7, 8];
     let doc = document(&rt, &file, b"x", 8, 8, &whole, &[0; 8])?;
-    assert_eq!(rt; length_of(&doc), 288);
+    same(&rt, &length_of(&doc), &288);
     Ok(())
 }
 
 // A dimension that leads twice stands in the document once.
 #[test]
 fn leading_twice(rt: HostRuntime) -> Result<(), Fail> {
-    let bytes = bytes_of(&rt, MIXED)?;
-    let file = header_of(&rt, &bytes)?;
+    let bytes = bytes_of(rt.alloc(), MIXED)?;
+    let file = header_of(rt.alloc(), &bytes)?;
     let one = fitted(&file, b"y", 3)?;
-    assert_eq!(rt; one.leading, 2);
-    assert_eq!(rt; one.slices, 4);
+    same(&rt, &shape_of(one), &(2, 4));
     let two = fitted(&file, b"y", 6)?;
-    assert_eq!(rt; two.leading, 1);
-    assert_eq!(rt; two.slices, 2);
+    same(&rt, &shape_of(two), &(1, 2));
     let doc = document(&rt, &file, b"y", 3, 1, &[2, 5, 8, 11], &[0; 4])?;
-    assert_eq!(rt; doc.dims.items.len(), 2);
+    same(&rt, &doc.dims.items.len(), &2);
     let Some(whole) = doc.vars.items.first() else {
         return Err("a variable was expected".into());
     };
-    assert!(rt; whole.dims.items.as_slice() == [0, 0, 1].as_slice());
-    assert_eq!(rt; doc.records, 0);
+    same(&rt, &whole.dims.items.as_slice(), &[0, 0, 1].as_slice());
+    same(&rt, &doc.records, &0);
     Ok(())
 }
 
@@ -220,8 +184,8 @@ fn fault_of(file: &NcFile, name: &[u8]) -> Option<NameFault>
 
 #[test]
 fn names_and_fills(rt: HostRuntime) -> Result<(), Fail> {
-    let bytes = bytes_of(&rt, MIXED)?;
-    let file = header_of(&rt, &bytes)?;
+    let bytes = bytes_of(rt.alloc(), MIXED)?;
+    let file = header_of(rt.alloc(), &bytes)?;
     let rows: [(&[u8], Option<NameFault>); 7] = [
         (b"x", None),
         (b"y", None),
@@ -232,18 +196,18 @@ fn names_and_fills(rt: HostRuntime) -> Result<(), Fail> {
         (b"r", Some(NameFault::Shape(NameId::Var))),
     ];
     for (name, fault) in rows {
-        assert!(rt; fault_of(&file, name) == fault);
+        same(&rt, &fault_of(&file, name), &fault);
     }
-    assert!(rt; fill_value(&file, 0).is_none());
-    assert!(rt; fill_value(&file, 1) == Some(-5));
+    same(&rt, &fill_value(&file, 0), &None);
+    same(&rt, &fill_value(&file, 1), &Some(-5));
     Ok(())
 }
 
 // A map with as many sources as no dimensions have.
 #[test]
 fn no_fit(rt: HostRuntime) -> Result<(), Fail> {
-    let bytes = bytes_of(&rt, MIXED)?;
-    let file = header_of(&rt, &bytes)?;
+    let bytes = bytes_of(rt.alloc(), MIXED)?;
+    let file = header_of(rt.alloc(), &bytes)?;
     match read_field(rt.alloc(), &file, b"y", 5, &bytes) {
         Err(FieldFault::Length(3)) => Ok(()),
         _ => Err("another length was expected".into()),
@@ -253,20 +217,20 @@ fn no_fit(rt: HostRuntime) -> Result<(), Fail> {
 // The file of a masked field, with a fill value and without one.
 #[test]
 fn masked(rt: HostRuntime) -> Result<(), Fail> {
-    let bytes = bytes_of(&rt, THREE_RECORDS)?;
-    let file = header_of(&rt, &bytes)?;
+    let bytes = bytes_of(rt.alloc(), THREE_RECORDS)?;
+    let file = header_of(rt.alloc(), &bytes)?;
     let field = fitted(&file, b"x", 2)?;
     if field.slices != 3 {
         return Err("three slices were expected".into());
     }
     for (fill, len) in [(Some(7), 396), (None, 360)] {
-        let whole = ints(&rt, &[0, -1, -2])?;
+        let whole = ints(rt.alloc(), &[0, -1, -2])?;
         let rest = longs(&rt, &[1, 0, 1])?;
         let part = longs(&rt, &[3, 3, 3])?;
         let Ok(doc) = masked_field_doc(rt.alloc(), &file, field, 1, fill, whole, rest, part) else {
             return Err("out of memory".into());
         };
-        assert_eq!(rt; length_of(&doc), len);
+        same(&rt, &length_of(&doc), &len);
     }
     Ok(())
 }
