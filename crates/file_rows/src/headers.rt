@@ -1,6 +1,6 @@
 // Files of other hands: the mesh file of one face a panel, byte by byte, damaged and cut; and files
 // with records, of version 2 and of version 5.
-ghost use Rattle.std.specs.Prelude.{length};
+ghost use Rattle.std.specs.Prelude.{length, All};
 ghost use Rattle.nc_format.specs.Numbers.{HasWholePieces};
 ghost use Rattle.nc_format.specs.Sound.{IsSound};
 
@@ -98,29 +98,45 @@ fn assert_bytes(
     Ok(())
 }
 
+// Where a variable begins, and its values.
+type Row = (u64, [i32; 9]);
+
 const UPWARDS: [i32; 9] = [1, 2, 3, 4, 5, 6, 7, 8, 9];
 
 const DOWNWARDS: [i32; 9] = [-1, -2, -3, -4, -5, -6, -7, -8, -9];
+
+// The variables, each of three records of 3 bytes, so far apart.
+fn assert_records(
+    rt: &impl Abort,
+    alloc: Global,
+    whole: &[u8],
+    file: &NcFile,
+    step: u64,
+    rows: &[Row],
+) -> Result<(), Fail>
+    requires { All (HasWholePieces (length whole.now)) file.now.vars }
+{
+    same(rt, &file.vars.items.len(), &rows.len());
+    for (var, (begin, want)) in file.vars.items.iter().zip(rows) {
+        assert_bytes(rt, alloc, whole, var, (*begin, 3, 3, step), want)?;
+    }
+    Ok(())
+}
 
 #[test]
 fn one_record(rt: HostRuntime) -> Result<(), Fail> {
     let whole = bytes_of(rt.alloc(), ONE_RECORD_VARIABLE)?;
     let file = header_of(rt.alloc(), &whole)?;
-    let [var] = file.vars.items.as_slice() else {
-        return Err("one variable was expected".into());
-    };
-    assert_bytes(&rt, rt.alloc(), &whole, var, (100, 3, 3, 3), &UPWARDS)
+    assert_records(&rt, rt.alloc(), &whole, &file, 3, &[(100, UPWARDS)])
 }
+
+const TWO_ROWS: [Row; 2] = [(144, UPWARDS), (148, DOWNWARDS)];
 
 #[test]
 fn two_records(rt: HostRuntime) -> Result<(), Fail> {
     let whole = bytes_of(rt.alloc(), TWO_RECORD_VARIABLES)?;
     let file = header_of(rt.alloc(), &whole)?;
-    let [one, two] = file.vars.items.as_slice() else {
-        return Err("two variables were expected".into());
-    };
-    assert_bytes(&rt, rt.alloc(), &whole, one, (144, 3, 3, 8), &UPWARDS)?;
-    assert_bytes(&rt, rt.alloc(), &whole, two, (148, 3, 3, 8), &DOWNWARDS)
+    assert_records(&rt, rt.alloc(), &whole, &file, 8, &TWO_ROWS)
 }
 
 // What its names find.
@@ -136,9 +152,14 @@ fn assert_names(rt: &impl Abort, file: &NcFile)
 
 type Shape = (NcKind, u64, u32, u64, u64);
 
-fn assert_shape(rt: &impl Abort, var: &NcVar, want: Shape) {
-    let shape = (var.kind, var.begin, var.parts, var.part, var.step);
-    same(rt, &shape, &want);
+const SHAPES: [Shape; 2] = [(NcKind::Int64, 252, 1, 16, 0), (NcKind::Int, 268, 0, 0, 0)];
+
+fn assert_shapes(rt: &impl Abort, file: &NcFile) {
+    same(rt, &file.vars.items.len(), &2);
+    for (var, want) in file.vars.items.iter().zip(&SHAPES) {
+        let shape = (var.kind, var.begin, var.parts, var.part, var.step);
+        same(rt, &shape, want);
+    }
 }
 
 #[test]
@@ -147,11 +168,7 @@ fn version_5(rt: HostRuntime) -> Result<(), Fail> {
     let file = header_of(rt.alloc(), &whole)?;
     same(&rt, &file.version, &5);
     assert_names(&rt, &file);
-    let [one, two] = file.vars.items.as_slice() else {
-        return Err("two variables were expected".into());
-    };
-    assert_shape(&rt, one, (NcKind::Int64, 252, 1, 16, 0));
-    assert_shape(&rt, two, (NcKind::Int, 268, 0, 0, 0));
+    assert_shapes(&rt, &file);
     Ok(())
 }
 

@@ -1,30 +1,46 @@
 // The map of two rows, by its numbers, and its file.
-ghost use Rattle.std.specs.Prelude.{◌≤◌, length, IfOk};
+ghost use Rattle.std.specs.Prelude.{◌≡◌, ◌≤◌, length, IfOk};
 
 use crate::compared::same;
 use crate::spelled::header_of;
 use map_rows::Map;
 use nc_write::{DimIds, encode};
 use remap_files::{FileFault, MapVars, map_doc, map_from, read_map};
+use std::alloc::{AllocError, Global};
 use std::test::Fail;
 
-// The map of two sources and one target, by the numbers of its variables.
-fn map_of(
-    rt: &HostRuntime,
-    col: [i32; 2],
-    s: [i64; 2],
-    area_a: [i64; 2],
-    area_b: [i64; 1],
-) -> Result<Result<Map, FileFault>, Fail> {
-    let vars = MapVars {
+// The variables of a map of two sources and one target, with two rows.
+fn map_vars(alloc: Global) -> Result<MapVars, AllocError>
+    ensures sources { IfOk result (λ vars. vars.n_a ≡ 2) }
+    ensures targets { IfOk result (λ vars. vars.n_b ≡ 1) }
+    ensures rows { IfOk result (λ vars. vars.n_s ≡ 2) }
+{
+    Ok(MapVars {
         n_a: 2,
         n_b: 1,
         n_s: 2,
         vars: DimIds {
-            items: [0, 1, 2, 3, 4].to_vec(rt.alloc())?,
+            items: [0, 1, 2, 3, 4].to_vec(alloc)?,
         },
-    };
-    Ok(map_from(rt.alloc(), &vars, &col, &[1, 1], &s, &area_a, &area_b))
+    })
+}
+
+// That map, by the numbers of its variables.
+fn map_of(
+    alloc: Global,
+    col: &[i32],
+    s: &[i64],
+    area_a: &[i64],
+    area_b: &[i64],
+) -> Result<Result<Map, FileFault>, AllocError>
+    requires col { length col.now ≡ 2 }
+    requires s { length s.now ≡ 2 }
+    requires area_a { length area_a.now ≡ 2 }
+    requires area_b { length area_b.now ≡ 1 }
+{
+    let vars = map_vars(alloc)?;
+    let map = map_from(alloc, &vars, col, &[1, 1], s, area_a, area_b);
+    Ok(map)
 }
 
 #[test]
@@ -45,7 +61,7 @@ fn rows_and_areas(rt: HostRuntime) -> Result<(), Fail> {
         ([1, 2], [1, 2], [1, 2], [4], Some(FileFault::AreaB(1))),
     ];
     for (col, s, area_a, area_b, want) in rows {
-        let map = map_of(&rt, col, s, area_a, area_b)?;
+        let map = map_of(rt.alloc(), &col, &s, &area_a, &area_b)?;
         same(&rt, &map.err(), &want);
     }
     Ok(())
@@ -53,7 +69,7 @@ fn rows_and_areas(rt: HostRuntime) -> Result<(), Fail> {
 
 // The map of two rows.
 fn two_rows(rt: &HostRuntime) -> Result<Map, Fail> {
-    match map_of(rt, [1, 2], [1, 2], [1, 2], [3])? {
+    match map_of(rt.alloc(), &[1, 2], &[1, 2], &[1, 2], &[3])? {
         Ok(map) => Ok(map),
         Err(_) => Err("a map was expected".into()),
     }

@@ -3,11 +3,13 @@ ghost use Rattle.std.specs.Prelude.{◌≤◌, length, IfOk};
 
 use crate::compared::same;
 use crate::spelled::{NO_PIECES, bytes_of, header_of, ints};
-use clip::{Overlap, Pieces};
+use clip::{Overlap, Piece, Pieces};
 use nc_write::{DimIds, encode};
 use remap_files::{
     OverlapVars, corner_count, overlap_doc, overlap_from, overlap_length, read_overlap,
 };
+use std::alloc::Global;
+use std::process::Abort;
 use std::test::Fail;
 
 // The corners of the first piece of a cube of one square a panel over one of four, in units of
@@ -86,26 +88,41 @@ fn one_piece(rt: &HostRuntime) -> Result<Overlap, Fail> {
     }
 }
 
+fn overlap_in(alloc: Global, bytes: &[u8]) -> Result<Overlap, Fail>
+    requires { length bytes.now ≤ 2147483647 }
+{
+    let file = header_of(alloc, bytes)?;
+    match read_overlap(alloc, &file, bytes) {
+        Ok(overlap) => Ok(overlap),
+        Err(_) => Err("an overlap was expected".into()),
+    }
+}
+
+fn assert_piece(rt: &impl Abort, piece: &Piece) {
+    same(rt, &(piece.a, piece.b), &(1, 1));
+    same(rt, &piece.ring.as_slice(), &[1, 6, 7, 4].as_slice());
+    let corners = piece.corners.items.as_slice();
+    assert!(rt; corners.len() == 4);
+    for t in 0..4 {
+        same(rt, &corners[t].as_slice(), &&CORNERS[3 * t..3 * t + 3]);
+    }
+}
+
+fn assert_overlap(rt: &impl Abort, overlap: &Overlap) {
+    same(rt, &(overlap.faces_a, overlap.faces_b), &(6, 24));
+    same(rt, &overlap.pieces.items.len(), &1);
+    for piece in &overlap.pieces.items {
+        assert_piece(rt, piece);
+    }
+}
+
 #[test]
 fn read_again(rt: HostRuntime) -> Result<(), Fail> {
     let overlap = one_piece(&rt)?;
     same(&rt, &corner_count(&overlap), &4);
     let bytes = file_of(&rt, &overlap)?;
     same(&rt, &(bytes.len() as u64), &overlap_length(1, 4));
-    let file = header_of(rt.alloc(), &bytes)?;
-    let Ok(again) = read_overlap(rt.alloc(), &file, &bytes) else {
-        return Err("an overlap was expected".into());
-    };
-    same(&rt, &(again.faces_a, again.faces_b), &(6, 24));
-    let [piece] = again.pieces.items.as_slice() else {
-        return Err("one piece was expected".into());
-    };
-    same(&rt, &(piece.a, piece.b), &(1, 1));
-    same(&rt, &piece.ring.as_slice(), &[1, 6, 7, 4].as_slice());
-    let corners = piece.corners.items.as_slice();
-    assert!(rt; corners.len() == 4);
-    for t in 0..4 {
-        same(&rt, &corners[t].as_slice(), &&CORNERS[3 * t..3 * t + 3]);
-    }
+    let again = overlap_in(rt.alloc(), &bytes)?;
+    assert_overlap(&rt, &again);
     Ok(())
 }

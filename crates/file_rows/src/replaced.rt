@@ -4,6 +4,7 @@ use remap_io::{Files, HostFiles, PutErr};
 use std::fs::{self, Metadata, OpenOptions, Permissions};
 use std::io;
 use std::os::unix::fs::PermissionsExt;
+use std::process::Abort;
 use std::test::Fail;
 
 // A device without room: no file takes a byte, since each is opened for reading alone.
@@ -57,6 +58,17 @@ impl<R: std::rt::Files> std::rt::Files for Full<R> {
     }
 }
 
+// The named file has these bytes.
+fn holds<R: std::rt::Files + AllocGlobal + Abort>(
+    rt: &R,
+    name: &str,
+    want: &[u8],
+) -> Result<(), Fail> {
+    let bytes = fs::read(rt, name)?;
+    same(rt, &bytes.as_slice(), &want);
+    Ok(())
+}
+
 #[test]
 fn a_file_is_replaced_whole(rt: HostRuntime) -> Result<(), Fail> {
     let mut files = HostFiles::new(rt);
@@ -64,16 +76,8 @@ fn a_file_is_replaced_whole(rt: HostRuntime) -> Result<(), Fail> {
     fs::set_permissions(&rt, "whole.tmp", Permissions::from_mode(0o640))?;
     fs::write(&rt, "whole.tmp.tempest-new", b"another's")?;
     same(&rt, &files.replace("whole.tmp", b"new bytes"), &Ok(()));
-    same(
-        &rt,
-        &fs::read(&rt, "whole.tmp")?.as_slice(),
-        &b"new bytes".as_slice(),
-    );
-    same(
-        &rt,
-        &fs::read(&rt, "whole.tmp.tempest-new")?.as_slice(),
-        &b"another's".as_slice(),
-    );
+    holds(&rt, "whole.tmp", b"new bytes")?;
+    holds(&rt, "whole.tmp.tempest-new", b"another's")?;
     same(&rt, &fs::exists(&rt, "whole.tmp.tempest-new1")?, &false);
     let mode = fs::metadata(&rt, "whole.tmp")?.permissions().mode();
     same(&rt, &(mode & 0o777), &0o640);
@@ -96,11 +100,7 @@ fn without_room_a_file_stays_as_it_was(rt: HostRuntime) -> Result<(), Fail> {
         &files.replace("none.tmp", b"new"),
         &Err(PutErr::Failed),
     );
-    same(
-        &rt,
-        &fs::read(&rt, "stays.tmp")?.as_slice(),
-        &b"old".as_slice(),
-    );
+    holds(&rt, "stays.tmp", b"old")?;
     for name in ["stays.tmp.tempest-new", "none.tmp", "none.tmp.tempest-new"] {
         same(&rt, &fs::exists(&rt, name)?, &false);
     }
@@ -119,11 +119,7 @@ fn a_link_is_written_in_place(rt: HostRuntime) -> Result<(), Fail> {
         &fs::symlink_metadata(&rt, "link.tmp")?.is_symlink(),
         &true,
     );
-    same(
-        &rt,
-        &fs::read(&rt, "target.tmp")?.as_slice(),
-        &b"new".as_slice(),
-    );
+    holds(&rt, "target.tmp", b"new")?;
     fs::remove_file(&rt, "link.tmp")?;
     fs::remove_file(&rt, "target.tmp")?;
     Ok(())
