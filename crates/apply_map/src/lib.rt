@@ -6,8 +6,6 @@ mod fields;
 mod fill;
 mod masses;
 mod sums;
-#[cfg(test)]
-mod tests;
 
 pub use application::apply;
 pub use fields::{ApplyFault, Field};

@@ -2,8 +2,6 @@
 #![tactic(auto)]
 
 mod rule;
-#[cfg(test)]
-mod tests;
 mod tickets;
 
 pub use rule::{Kind, View};

@@ -6,8 +6,6 @@
 mod job;
 mod order;
 mod run;
-#[cfg(test)]
-mod tests;
 mod worker;
 
 pub use job::{BlockJob, Parts, Placed};

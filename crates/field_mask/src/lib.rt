@@ -6,8 +6,6 @@ mod counts;
 mod fields;
 mod masses;
 mod shares;
-#[cfg(test)]
-mod tests;
 
 pub use application::apply_masked;
 pub use counts::masked_count;

@@ -7,8 +7,6 @@ mod laws;
 mod make;
 mod maker;
 mod pieces;
-#[cfg(test)]
-mod tests;
 
 pub use faults::MapFault;
 pub use laws::law_one_map_fault;

@@ -8,8 +8,6 @@ mod gates;
 mod laws;
 mod rings;
 mod run;
-#[cfg(test)]
-mod tests;
 mod workers;
 
 pub use block_claims::{

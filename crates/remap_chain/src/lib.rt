@@ -4,8 +4,6 @@
 mod faults;
 mod laws;
 mod steps;
-#[cfg(test)]
-mod tests;
 mod whole;
 
 pub use faults::ChainFault;

@@ -3,7 +3,8 @@ ghost use Rattle.std.specs.Prelude.{◌≡◌, ℕ, ◌^◌, ◌<◌, ◌≤◌,
 ghost use Rattle.block_workers.specs.InPlace.{AllInPlace};
 ghost use Rattle.block_workers.specs.InParts.{IsPlacedBy};
 
-use crate::{BlockJob, Parts, run_blocks};
+use crate::compare::same_list;
+use block_workers::{BlockJob, Parts, run_blocks};
 use std::alloc::{AllocError, Global};
 use std::sync::atomic::{AtomicU64, Ordering};
 use std::test::Fail;
@@ -227,8 +228,8 @@ fn told(alloc: Global, done: &Parts<(), u32>) -> Result<Vec<u32>, AllocError> {
 fn one_and_more_workers(rt: HostRuntime) -> Result<(), Fail> {
     let numbers = [3, 1, 4, 1, 5];
     for workers in [1, 4, 64] {
-        let same = read_by_blocks(&rt, rt.alloc(), &numbers, workers, &OpenGate)?;
-        assert_eq!(rt; same.as_slice(), numbers.as_slice());
+        let read = read_by_blocks(&rt, rt.alloc(), &numbers, workers, &OpenGate)?;
+        same_list(&rt, read.as_slice(), &numbers);
     }
     let nothing = read_by_blocks(&rt, rt.alloc(), &[], 2, &OpenGate)?;
     assert!(rt; nothing.is_empty());
@@ -251,7 +252,7 @@ fn two_workers_meet(rt: HostRuntime) -> Result<(), Fail> {
         one_came: Flag::new(),
     };
     let both = run_blocks(&rt, rt.alloc(), &job, 2, 2)?;
-    assert_eq!(rt; told(rt.alloc(), &both)?.as_slice(), [0, 1].as_slice());
+    same_list(&rt, told(rt.alloc(), &both)?.as_slice(), &[0, 1]);
     assert!(rt; both.blocks[0].part != both.blocks[1].part);
     assert!(rt; job.zero_came.was_seen());
     assert!(rt; job.one_came.was_seen());
@@ -267,7 +268,7 @@ fn three_blocks_drawn(rt: HostRuntime) -> Result<(), Fail> {
             came: Flag::new(),
         };
         let all = run_blocks(&rt, rt.alloc(), &job, 3, 2)?;
-        assert_eq!(rt; told(rt.alloc(), &all)?.as_slice(), [0, 1, 2].as_slice());
+        same_list(&rt, told(rt.alloc(), &all)?.as_slice(), &[0, 1, 2]);
         assert!(rt; job.came.was_seen());
     }
     Ok(())

@@ -1,6 +1,6 @@
 use Rattle.std.proofs.Common.{◌≡◌, length, slice_index}
 use Rattle.block_workers.specs.InPlace.{AllInPlace}
-use Rattle.block_workers.proofs.tests.numbers_in_order.Given as goal
+use Rattle.field_rows.proofs.workers.numbers_in_order.Given as goal
 
 abbrev pub invariant-loop-block : goal.invariant-loop-block
 invariant-loop-block l = record {

@@ -1,5 +1,6 @@
 // Draws by one ticket and by two, and that threads may share the word and take tickets along.
-use crate::{claims, draw, is_done, last_word, last_word_of, rejoin, split};
+use crate::compare::same;
+use block_claims::{claims, draw, is_done, last_word, last_word_of, rejoin, split};
 use std::test::Fail;
 
 fn is_shared_by_threads<T: Sync>(_value: &T) {}
@@ -10,14 +11,14 @@ fn goes_to_a_thread<T: Send + Drop>(_value: T) {}
 fn two_blocks_one_ticket(rt: HostRuntime) -> Result<(), Fail> {
     let (word, mut ticket) = claims(rt.alloc(), 2)?;
     let answer = draw(&word, &mut ticket);
-    assert_eq!(rt; answer, Some(0));
+    assert!(rt; answer == Some(0));
     let answer = draw(&word, &mut ticket);
-    assert_eq!(rt; answer, Some(1));
+    assert!(rt; answer == Some(1));
     assert!(rt; !is_done(&ticket));
     let answer = draw(&word, &mut ticket);
-    assert_eq!(rt; answer, None);
+    same(&rt, &answer, &None);
     assert!(rt; is_done(&ticket));
-    assert_eq!(rt; last_word(word), 3);
+    same(&rt, &last_word(word), &3);
     Ok(())
 }
 
@@ -25,9 +26,9 @@ fn two_blocks_one_ticket(rt: HostRuntime) -> Result<(), Fail> {
 fn no_block(rt: HostRuntime) -> Result<(), Fail> {
     let (word, mut ticket) = claims(rt.alloc(), 0)?;
     let answer = draw(&word, &mut ticket);
-    assert_eq!(rt; answer, None);
+    same(&rt, &answer, &None);
     assert!(rt; is_done(&ticket));
-    assert_eq!(rt; last_word(word), 1);
+    same(&rt, &last_word(word), &1);
     Ok(())
 }
 
@@ -36,18 +37,18 @@ fn two_tickets(rt: HostRuntime) -> Result<(), Fail> {
     let (word, mut first) = claims(rt.alloc(), 3)?;
     let mut further = split(&word, &mut first);
     let answer = draw(&word, &mut first);
-    assert_eq!(rt; answer, Some(0));
+    assert!(rt; answer == Some(0));
     let answer = draw(&word, &mut further);
-    assert_eq!(rt; answer, Some(1));
+    assert!(rt; answer == Some(1));
     let answer = draw(&word, &mut first);
-    assert_eq!(rt; answer, Some(2));
+    assert!(rt; answer == Some(2));
     let answer = draw(&word, &mut further);
-    assert_eq!(rt; answer, None);
+    same(&rt, &answer, &None);
     let answer = draw(&word, &mut first);
-    assert_eq!(rt; answer, None);
+    same(&rt, &answer, &None);
     rejoin(&word, &mut first, further);
     assert!(rt; is_done(&first));
-    assert_eq!(rt; last_word_of(word, first), 5);
+    same(&rt, &last_word_of(word, first), &5);
     Ok(())
 }
 

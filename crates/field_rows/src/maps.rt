@@ -1,44 +1,18 @@
 // Worked maps of octants, and the first faults of their overlaps.
-ghost use Rattle.std.specs.Prelude.{◌≡◌, ◌≤◌, IfOk, All, length};
+ghost use Rattle.std.specs.Prelude.{◌≡◌, ◌≤◌, All, length};
 ghost use Rattle.clip.specs.Overlaps.{IsRingNumber};
 
-use super::*;
+use crate::compare::{same, same_list};
+use crate::meshes::{OCTANT, face_mesh};
 use clip::{Corners, Overlap, Piece, Pieces, Ring};
-use mesh_check::{Mesh, check};
+use offline_map::{MapFault, MapRow, make_map};
 use smallvec::SmallVec;
 use std::alloc::{AllocError, Global};
 use std::process::Abort;
 use std::test::Fail;
-use vec_exact::{Faces, Ints, Nodes, RawMesh};
 
-const OCTANT: [[i32; 3]; 3] = [[1, 0, 0], [0, 1, 0], [0, 0, 1]];
-
-// The grid corners of its ring, 2^28 in size: the second node first.
+// The grid corners of the octant's ring, 2^28 in size: the second node first.
 const CORNERS: [[i32; 3]; 3] = [[0, 268435456, 0], [0, 0, 268435456], [268435456, 0, 0]];
-
-fn one_face(alloc: Global) -> Result<RawMesh, AllocError>
-    ensures nodes { IfOk result (λ raw. length raw.nodes ≡ 3) }
-    ensures faces { IfOk result (λ raw. length raw.faces ≡ 1) }
-{
-    let items = Vec::from_slice(alloc, &[1, 2, 3])?;
-    let mut faces = Vec::with_capacity(alloc, 1)?;
-    faces.push(Ints { items }).map_err(AllocError::from)?;
-    Ok(RawMesh {
-        nodes: Nodes {
-            items: Vec::from_slice(alloc, &OCTANT)?,
-        },
-        faces: Faces { items: faces },
-    })
-}
-
-// The mesh of one octant.
-fn octant(alloc: Global) -> Result<Mesh, Fail> {
-    let raw = one_face(alloc)?;
-    match check(alloc, raw) {
-        Ok(mesh) => Ok(mesh),
-        Err(_) => Err("a mesh was expected".into()),
-    }
-}
 
 fn ring_of(rt: &impl Abort, numbers: [u8; 3]) -> Ring
     ensures numbers { All IsRingNumber result.items }
@@ -94,7 +68,7 @@ fn no_piece(alloc: Global, faces_a: u32, faces_b: u32) -> Overlap
 
 #[test]
 fn map_of_an_octant(rt: HostRuntime) -> Result<(), Fail> {
-    let mesh = octant(rt.alloc())?;
+    let mesh = face_mesh(&rt, rt.alloc(), &OCTANT);
     let overlap = one_piece(&rt, rt.alloc(), [1, 2, 3], CORNERS)?;
     let Ok(map) = make_map(rt.alloc(), &mesh, &mesh, &overlap) else {
         return Err("a map was expected".into());
@@ -104,16 +78,16 @@ fn map_of_an_octant(rt: HostRuntime) -> Result<(), Fail> {
         row: 1,
         s: 107944315648,
     };
-    assert_eq!(rt; (map.n_a, map.n_b), (1, 1));
-    assert_eq!(rt; map.rows.items.as_slice(), [row].as_slice());
-    assert_eq!(rt; map.area_a.items.as_slice(), [107944315648].as_slice());
-    assert_eq!(rt; map.area_b.items.as_slice(), [107944315648].as_slice());
+    same(&rt, &(map.n_a, map.n_b), &(1, 1));
+    same_list(&rt, map.rows.items.as_slice(), &[row]);
+    same_list(&rt, map.area_a.items.as_slice(), &[107944315648]);
+    same_list(&rt, map.area_b.items.as_slice(), &[107944315648]);
     Ok(())
 }
 
 #[test]
 fn pieces_that_are_not_right(rt: HostRuntime) -> Result<(), Fail> {
-    let mesh = octant(rt.alloc())?;
+    let mesh = face_mesh(&rt, rt.alloc(), &OCTANT);
     let mut changed = CORNERS;
     changed[0][0] = 1;
     // Planes 4 to 6 have the directions of planes 1 to 3.
@@ -125,14 +99,14 @@ fn pieces_that_are_not_right(rt: HostRuntime) -> Result<(), Fail> {
     ] {
         let overlap = one_piece(&rt, rt.alloc(), numbers, corners)?;
         let fault = make_map(rt.alloc(), &mesh, &mesh, &overlap).err();
-        assert_eq!(rt; fault, Some(MapFault::Row(1)));
+        same(&rt, &fault, &Some(MapFault::Row(1)));
     }
     Ok(())
 }
 
 #[test]
 fn counts_and_targets(rt: HostRuntime) -> Result<(), Fail> {
-    let mesh = octant(rt.alloc())?;
+    let mesh = face_mesh(&rt, rt.alloc(), &OCTANT);
     let rows = [
         (24, 6, MapFault::CountsA { file: 24, mesh: 1 }),
         (1, 6, MapFault::CountsB { file: 6, mesh: 1 }),
@@ -142,7 +116,7 @@ fn counts_and_targets(rt: HostRuntime) -> Result<(), Fail> {
         assert!(rt; 1 <= faces_a && faces_a <= 24 && 1 <= faces_b && faces_b <= 24);
         let overlap = no_piece(rt.alloc(), faces_a, faces_b);
         let fault = make_map(rt.alloc(), &mesh, &mesh, &overlap).err();
-        assert_eq!(rt; fault, Some(want));
+        same(&rt, &fault, &Some(want));
     }
     Ok(())
 }

@@ -1,4 +1,4 @@
-use Rattle.overlap_run.proofs.tests.octants.Given as goal
+use Rattle.field_rows.proofs.overlaps.octants.Given as goal
 
 abbrev pub ghosts-run_once : goal.ghosts-run_once
 ghosts-run_once g a = record { name = a.blank.name; parts = a.blank.parts }

@@ -1,5 +1,5 @@
 use Rattle.map_rows.proofs.TwoRows.{two_rows_of}
-use Rattle.apply_map.proofs.tests.two_rows.Goals as goal
+use Rattle.field_rows.proofs.small_map.two_rows.Goals as goal
 
 pub invariant_of-result : goal.invariant_of-result
 invariant_of-result c =
