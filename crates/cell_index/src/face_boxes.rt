@@ -1,8 +1,8 @@
 // The boxes of a face.
-ghost use Rattle.std.specs.Prelude.{◌≡◌, ◌<◌, ◌≤◌, pos, ◌*ℤ◌, ◌≤ℤ◌, ◌<ℤ◌, length, unsigned_abs, IsTrue, if◌then◌else◌};
+ghost use Rattle.std.specs.Prelude.{◌≡◌, ◌<◌, ◌≤◌, pos, ◌*ℤ◌, ◌≤ℤ◌, ◌<ℤ◌, length, unsigned_abs, false, IsTrue, if◌then◌else◌};
 ghost use Rattle.std.specs.Int.{int_min, int_max};
 ghost use Rattle.mesh_check.specs.Mesh.{corners_of};
-ghost use Rattle.cell_index.specs.Box.{is_in_front, floor_of, u_floor, v_floor, range_of, is_empty, whole_panel, box_of, boxes};
+ghost use Rattle.cell_index.specs.Box.{is_beyond, is_in_front, floor_of, u_floor, v_floor, range_of, is_empty, whole_panel, box_of, boxes};
 ghost use Rattle.cell_index.specs.Extents.{AreSpans};
 ghost use Rattle.cell_index.specs.Fineness.{fineness_of};
 
@@ -131,7 +131,23 @@ fn unless_empty(fitted: CellBox) -> Option<CellBox>
     }
 }
 
-// The box of a face on one panel.
+// The box of a face on a panel that doesn't have it beyond one of its sides.
+fn box_within(mesh: &Mesh, face: u32, spans: &Spans, panel: Panel, k: i32) -> Option<CellBox>
+    requires face { (1 ≤ face) × (face ≤ length mesh.now.faces) }
+    requires spans { AreSpans (corners_of mesh.now face) spans.now }
+    requires within { is_beyond (corners_of mesh.now face) panel ≡ false }
+    requires least { pos 1 ≤ℤ k }
+    requires greatest { k ≤ℤ pos 256 }
+    ensures { result ≡ box_of (corners_of mesh.now face) panel k }
+{
+    if lies_in_front(spans, panel) {
+        unless_empty(fit(mesh, face, panel, k))
+    } else {
+        Some(whole(k))
+    }
+}
+
+// The box of a face on one panel. Most panels end here, so this stays short.
 fn box_on(mesh: &Mesh, face: u32, spans: &Spans, panel: Panel, k: i32) -> Option<CellBox>
     requires face { (1 ≤ face) × (face ≤ length mesh.now.faces) }
     requires spans { AreSpans (corners_of mesh.now face) spans.now }
@@ -142,11 +158,7 @@ fn box_on(mesh: &Mesh, face: u32, spans: &Spans, panel: Panel, k: i32) -> Option
     if lies_beyond(spans, panel) {
         return None;
     }
-    if lies_in_front(spans, panel) {
-        unless_empty(fit(mesh, face, panel, k))
-    } else {
-        Some(whole(k))
-    }
+    box_within(mesh, face, spans, panel, k)
 }
 
 /// The boxes at the fineness `k` of the face with this number, which counts from 1.
