@@ -132,6 +132,7 @@ fn unless_empty(fitted: CellBox) -> Option<CellBox>
 }
 
 // The box of a face on a panel that doesn't have it beyond one of its sides.
+#[inline(never)]
 fn box_within(mesh: &Mesh, face: u32, spans: &Spans, panel: Panel, k: i32) -> Option<CellBox>
     requires face { (1 ≤ face) × (face ≤ length mesh.now.faces) }
     requires spans { AreSpans (corners_of mesh.now face) spans.now }
@@ -147,7 +148,9 @@ fn box_within(mesh: &Mesh, face: u32, spans: &Spans, panel: Panel, k: i32) -> Op
     }
 }
 
-// The box of a face on one panel. Most panels end here, so this stays short.
+// The box of a face on one panel. Most panels have the face beyond a side and end here, so this is put
+// where it is called, once for each panel, and the rest is a call.
+#[inline(always)]
 fn box_on(mesh: &Mesh, face: u32, spans: &Spans, panel: Panel, k: i32) -> Option<CellBox>
     requires face { (1 ≤ face) × (face ≤ length mesh.now.faces) }
     requires spans { AreSpans (corners_of mesh.now face) spans.now }
