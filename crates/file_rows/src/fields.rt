@@ -1,7 +1,8 @@
 // Files of other hands: fields with records, with dimensions that lead twice, and with fill values;
 // and the documents of what is made of them. The bytes are spelled by hand, by the netCDF classic
 // format specification.
-ghost use Rattle.std.specs.Prelude.{◌≡◌, IfOk};
+ghost use Rattle.std.specs.Prelude.{◌≡◌, ◌≤◌, length, IfOk};
+ghost use Rattle.nc_format.specs.Header.{IsHeader};
 ghost use Rattle.nc_format.specs.Sound.{IsSound};
 ghost use Rattle.nc_write.specs.Form.{IsWellFormed};
 ghost use Rattle.field_files.specs.FileHeader.{IsFileHeader};
@@ -16,6 +17,8 @@ use field_files::{
 };
 use nc_format::NcFile;
 use nc_write::{NcDoc, length_of};
+use std::alloc::Global;
+use std::process::Abort;
 use std::test::Fail;
 use vec_exact::Longs;
 
@@ -68,17 +71,17 @@ fn fitted(file: &NcFile, name: &[u8], n_a: u32) -> Result<FieldVar, Fail>
     }
 }
 
-fn longs(rt: &HostRuntime, numbers: &[i64]) -> Result<Longs, Fail>
+fn longs(alloc: Global, numbers: &[i64]) -> Result<Longs, Fail>
     ensures { IfOk result (λ longs. longs ≡ numbers.now) }
 {
     Ok(Longs {
-        items: numbers.to_vec(rt.alloc())?,
+        items: numbers.to_vec(alloc)?,
     })
 }
 
 // The document of a field over one or several targets.
 fn document(
-    rt: &HostRuntime,
+    alloc: Global,
     file: &NcFile,
     name: &[u8],
     n_a: u32,
@@ -95,14 +98,9 @@ fn document(
     if n_b == 0 || n_b > 1_048_576 || whole.len() as u64 != count || rest.len() as u64 != count {
         return Err("other counts were expected".into());
     }
-    match field_doc(
-        rt.alloc(),
-        file,
-        field,
-        n_b,
-        ints(rt.alloc(), whole)?,
-        longs(rt, rest)?,
-    ) {
+    let whole = ints(alloc, whole)?;
+    let rest = longs(alloc, rest)?;
+    match field_doc(alloc, file, field, n_b, whole, rest) {
         Ok(doc) => Ok(doc),
         Err(_) => Err("out of memory".into()),
     }
@@ -113,23 +111,45 @@ fn shape_of(field: FieldVar) -> (usize, u32) {
     (field.leading, field.slices)
 }
 
+// How many records the document of a field has, and how long its file is.
+fn counts_of(
+    alloc: Global,
+    file: &NcFile,
+    n_a: u32,
+    n_b: u32,
+    whole: &[i32],
+    rest: &[i64],
+) -> Result<(u32, u64), Fail>
+    requires file { IsFileHeader file.now }
+    requires sound { IsSound file.now }
+{
+    let doc = document(alloc, file, b"x", n_a, n_b, whole, rest)?;
+    Ok((doc.records, length_of(&doc)))
+}
+
+fn assert_three(rt: &impl Abort, alloc: Global, file: &NcFile, bytes: &[u8]) -> Result<(), Fail>
+    requires short { length bytes.now ≤ 2147483647 }
+    requires header { IsHeader bytes.now (length bytes.now) file.now }
+    requires file { IsFileHeader file.now }
+    requires sound { IsSound file.now }
+{
+    let Ok(found) = read_field(alloc, file, b"x", 2, bytes) else {
+        return Err("a field was expected".into());
+    };
+    let values = [-1, 1, -5, 1, -5, 0];
+    same(rt, &shape_of(found.field), &(1, 3));
+    same(rt, &found.values.items.as_slice(), &values.as_slice());
+    same(rt, &found.fill, &None);
+    Ok(())
+}
+
 #[test]
 fn three_records(rt: HostRuntime) -> Result<(), Fail> {
     let bytes = bytes_of(rt.alloc(), THREE_RECORDS)?;
     let file = header_of(rt.alloc(), &bytes)?;
-    let Ok(found) = read_field(rt.alloc(), &file, b"x", 2, &bytes) else {
-        return Err("a field was expected".into());
-    };
-    same(&rt, &shape_of(found.field), &(1, 3));
-    same(
-        &rt,
-        &found.values.items.as_slice(),
-        &[-1, 1, -5, 1, -5, 0].as_slice(),
-    );
-    same(&rt, &found.fill, &None);
-    let doc = document(&rt, &file, b"x", 2, 1, &[0, -1, -2], &[1, 0, 1])?;
-    same(&rt, &doc.records, &3);
-    same(&rt, &length_of(&doc), &264);
+    assert_three(&rt, rt.alloc(), &file, &bytes)?;
+    let counts = counts_of(rt.alloc(), &file, 2, 1, &[0, -1, -2], &[1, 0, 1])?;
+    same(&rt, &counts, &(3, 264));
     Ok(())
 }
 
@@ -137,10 +157,9 @@ fn three_records(rt: HostRuntime) -> Result<(), Fail> {
 fn no_record(rt: HostRuntime) -> Result<(), Fail> {
     let bytes = bytes_of(rt.alloc(), NO_RECORD)?;
     let file = header_of(rt.alloc(), &bytes)?;
-    let field = fitted(&file, b"x", 2)?;
-    same(&rt, &field.slices, &0);
-    let doc = document(&rt, &file, b"x", 2, 1, &[], &[])?;
-    same(&rt, &length_of(&doc), &228);
+    same(&rt, &fitted(&file, b"x", 2)?.slices, &0);
+    let counts = counts_of(rt.alloc(), &file, 2, 1, &[], &[])?;
+    same(&rt, &counts, &(0, 228));
     Ok(())
 }
 
@@ -149,27 +168,37 @@ fn octants(rt: HostRuntime) -> Result<(), Fail> {
     let bytes = bytes_of(rt.alloc(), OCTANTS)?;
     let file = header_of(rt.alloc(), &bytes)?;
     let whole = [1, 2, 3, 4, 5, 6, 7, 8];
-    let doc = document(&rt, &file, b"x", 8, 8, &whole, &[0; 8])?;
-    same(&rt, &length_of(&doc), &288);
+    let counts = counts_of(rt.alloc(), &file, 8, 8, &whole, &[0; 8])?;
+    same(&rt, &counts, &(0, 288));
+    Ok(())
+}
+
+// The slices over maps of three and of six sources.
+fn assert_slices(rt: &impl Abort, file: &NcFile) -> Result<(), Fail>
+    requires file { IsFileHeader file.now }
+    requires sound { IsSound file.now }
+{
+    same(rt, &shape_of(fitted(file, b"y", 3)?), &(2, 4));
+    same(rt, &shape_of(fitted(file, b"y", 6)?), &(1, 2));
     Ok(())
 }
 
 // A dimension that leads twice stands in the document once.
+fn assert_once(rt: &impl Abort, doc: &NcDoc) {
+    same(rt, &(doc.dims.items.len(), doc.records), &(2, 0));
+    let Some(whole) = doc.vars.items.first() else {
+        panic!(rt; "a variable was expected");
+    };
+    same(rt, &whole.dims.items.as_slice(), &[0, 0, 1].as_slice());
+}
+
 #[test]
 fn leading_twice(rt: HostRuntime) -> Result<(), Fail> {
     let bytes = bytes_of(rt.alloc(), MIXED)?;
     let file = header_of(rt.alloc(), &bytes)?;
-    let one = fitted(&file, b"y", 3)?;
-    same(&rt, &shape_of(one), &(2, 4));
-    let two = fitted(&file, b"y", 6)?;
-    same(&rt, &shape_of(two), &(1, 2));
-    let doc = document(&rt, &file, b"y", 3, 1, &[2, 5, 8, 11], &[0; 4])?;
-    same(&rt, &doc.dims.items.len(), &2);
-    let Some(whole) = doc.vars.items.first() else {
-        return Err("a variable was expected".into());
-    };
-    same(&rt, &whole.dims.items.as_slice(), &[0, 0, 1].as_slice());
-    same(&rt, &doc.records, &0);
+    assert_slices(&rt, &file)?;
+    let doc = document(rt.alloc(), &file, b"y", 3, 1, &[2, 5, 8, 11], &[0; 4])?;
+    assert_once(&rt, &doc);
     Ok(())
 }
 
@@ -214,23 +243,29 @@ fn no_fit(rt: HostRuntime) -> Result<(), Fail> {
     }
 }
 
-// The file of a masked field, with a fill value and without one.
+// How long the file of a masked field is, with this fill value or without one.
+fn masked_length(alloc: Global, file: &NcFile, fill: Option<i32>) -> Result<u64, Fail>
+    requires file { IsFileHeader file.now }
+    requires sound { IsSound file.now }
+{
+    let field = fitted(file, b"x", 2)?;
+    if field.slices != 3 {
+        return Err("three slices were expected".into());
+    }
+    let whole = ints(alloc, &[0, -1, -2])?;
+    let rest = longs(alloc, &[1, 0, 1])?;
+    let part = longs(alloc, &[3, 3, 3])?;
+    match masked_field_doc(alloc, file, field, 1, fill, whole, rest, part) {
+        Ok(doc) => Ok(length_of(&doc)),
+        Err(_) => Err("out of memory".into()),
+    }
+}
+
 #[test]
 fn masked(rt: HostRuntime) -> Result<(), Fail> {
     let bytes = bytes_of(rt.alloc(), THREE_RECORDS)?;
     let file = header_of(rt.alloc(), &bytes)?;
-    let field = fitted(&file, b"x", 2)?;
-    if field.slices != 3 {
-        return Err("three slices were expected".into());
-    }
-    for (fill, len) in [(Some(7), 396), (None, 360)] {
-        let whole = ints(rt.alloc(), &[0, -1, -2])?;
-        let rest = longs(&rt, &[1, 0, 1])?;
-        let part = longs(&rt, &[3, 3, 3])?;
-        let Ok(doc) = masked_field_doc(rt.alloc(), &file, field, 1, fill, whole, rest, part) else {
-            return Err("out of memory".into());
-        };
-        same(&rt, &length_of(&doc), &len);
-    }
+    same(&rt, &masked_length(rt.alloc(), &file, Some(7))?, &396);
+    same(&rt, &masked_length(rt.alloc(), &file, None)?, &360);
     Ok(())
 }
