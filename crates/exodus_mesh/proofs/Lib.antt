@@ -15,3 +15,7 @@ pub mod VarValues
 mod Widths
 pub mod MeshLength
 pub mod Lists
+pub mod FoundColumns
+pub mod FirstNot
+pub mod GoodPairs
+pub mod DocSums

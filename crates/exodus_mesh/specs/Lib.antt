@@ -6,3 +6,7 @@ pub mod MeshValues
 pub mod MeshIn
 pub mod Found
 pub mod Places
+pub mod Pairs
+pub mod Columns
+pub mod FirstNot
+pub mod Answers

@@ -3,9 +3,10 @@ ghost use Rattle.std.specs.Prelude.{◌≡◌, ◌≤◌, length, IfOk};
 
 use crate::compared::same;
 use crate::spelled::header_of;
+use exodus_mesh::FileFault;
+use map_files::{MapVars, map_doc, map_from, read_map};
 use map_rows::Map;
 use nc_write::{DimIds, encode};
-use remap_files::{FileFault, MapVars, map_doc, map_from, read_map};
 use std::alloc::{AllocError, Global};
 use std::test::Fail;
 

@@ -12,7 +12,7 @@ use Rattle.exodus_mesh.specs.MeshIn.{values_in}
 use Rattle.exodus_mesh.proofs.VarValues.{bytes_len, has_pieces, len_values}
 use Rattle.remap_io.specs.Folder.{Folder, OnFile}
 use Rattle.remap_io.specs.Outside.{FilesSeen}
-use Rattle.remap_files.specs.declared.vars.MapVars.{MapVars}
+use Rattle.map_files.specs.declared.vars.MapVars.{MapVars}
 use Rattle.remap_load.specs.declared.Head.{Head}
 use Rattle.remap_load.specs.Heads.{IsHead}
 use Rattle.remap_load.specs.Loading.{ReadsAtMost}

@@ -9,13 +9,13 @@ use Rattle.nc_format.specs.Header.{IsHeader}
 use Rattle.nc_format.specs.Answers.{IsFaultOf}
 use Rattle.exodus_mesh.specs.declared.ids.NameFault.{NameFault}
 use Rattle.exodus_mesh.specs.declared.ids.NameFault.TheVariants as of_names
-use Rattle.remap_files.specs.declared.faults.FileFault.{FileFault}
-use Rattle.remap_files.specs.declared.faults.FileFault.TheVariants.{Name, Row, AreaA, AreaB, NoMemory}
-use Rattle.remap_files.specs.declared.vars.MapVars.{MapVars}
-use Rattle.remap_files.specs.Answers.{IsOfRowsOrAreas}
-use Rattle.remap_files.specs.MapNames.{map_vars_in}
-use Rattle.remap_files.specs.MapIn.{if_map_named, map_in}
-use Rattle.remap_files.proofs.ReadMaps.{map_in_is}
+use Rattle.exodus_mesh.specs.declared.faults.FileFault.{FileFault}
+use Rattle.exodus_mesh.specs.declared.faults.FileFault.TheVariants.{Name, Row, AreaA, AreaB, NoMemory}
+use Rattle.map_files.specs.declared.vars.MapVars.{MapVars}
+use Rattle.exodus_mesh.specs.Answers.{IsOfRowsOrAreas}
+use Rattle.map_files.specs.MapNames.{map_vars_in}
+use Rattle.map_files.specs.MapIn.{if_map_named, map_in}
+use Rattle.map_files.proofs.ReadMaps.{map_in_is}
 use Rattle.remap_load.specs.declared.Head.{Head}
 use Rattle.remap_load.specs.declared.refusal.FileRefusal.{FileRefusal}
 use Rattle.remap_load.specs.declared.refusal.FileRefusal.TheVariants.{Load, Content}

@@ -2,10 +2,10 @@
 use Rattle.std.specs.Prelude.{◌≡◌, ℕ, List, length, Result}
 use Rattle.map_rows.specs.Maps.{MapParts}
 use Rattle.nc_format.specs.declared.NcFile.{NcFile}
-use Rattle.remap_files.specs.declared.faults.FileFault.{FileFault}
-use Rattle.remap_files.specs.declared.vars.MapVars.{MapVars}
-use Rattle.remap_files.specs.MapValues.{RowColumns, map_of}
-use Rattle.remap_files.specs.MapIn.{map_list_in}
+use Rattle.exodus_mesh.specs.declared.faults.FileFault.{FileFault}
+use Rattle.map_files.specs.declared.vars.MapVars.{MapVars}
+use Rattle.map_files.specs.MapValues.{RowColumns, map_of}
+use Rattle.map_files.specs.MapIn.{map_list_in}
 use Rattle.map_load.specs.declared.values.MapNumbers.{MapNumbers}
 
 -- those in a file with this header and these bytes

@@ -3,10 +3,10 @@ use Rattle.std.specs.Prelude.{◌≡◌, Err, ⊤}
 use Rattle.nc_format.specs.declared.NcFile.{NcFile}
 use Rattle.exodus_mesh.specs.declared.ids.NameFault.{NameFault}
 use Rattle.exodus_mesh.specs.declared.ids.NameFault.TheVariants as of_names
-use Rattle.remap_files.specs.declared.faults.FileFault.{FileFault}
-use Rattle.remap_files.specs.declared.faults.FileFault.TheVariants.{Name, Row, AreaA, AreaB, NoMemory}
-use Rattle.remap_files.specs.declared.vars.MapVars.{MapVars}
-use Rattle.remap_files.specs.MapNames.{map_vars_in}
+use Rattle.exodus_mesh.specs.declared.faults.FileFault.{FileFault}
+use Rattle.exodus_mesh.specs.declared.faults.FileFault.TheVariants.{Name, Row, AreaA, AreaB, NoMemory}
+use Rattle.map_files.specs.declared.vars.MapVars.{MapVars}
+use Rattle.map_files.specs.MapNames.{map_vars_in}
 use Rattle.remap_load.specs.declared.fault.LoadFault.TheVariants as load
 use Rattle.remap_load.specs.declared.refusal.FileRefusal.{FileRefusal}
 use Rattle.remap_load.specs.declared.refusal.FileRefusal.TheVariants.{Load, Content}

@@ -8,7 +8,7 @@ mod values;
 
 pub use laws::law_one_map_file;
 pub use loading::load_map;
-use remap_files::FileFault;
+use exodus_mesh::FileFault;
 use remap_load::FileRefusal;
 
 /// Why no map was loaded from a file. A fault of what the file holds is never want of memory.

@@ -1,14 +1,14 @@
 // The numbers of the variables of a map.
 ghost use Rattle.std.specs.Prelude.{◌≡◌, ◌<◌, true, length, slice_get, slice_index, Ok, IfOk, IfErr, IsSomeAnd};
 ghost use Rattle.remap_io.specs.Folder.{OnFile};
-ghost use Rattle.remap_files.specs.MapNames.{map_vars_in};
+ghost use Rattle.map_files.specs.MapNames.{map_vars_in};
 ghost use Rattle.remap_load.specs.Heads.{IsHead, IsHeadOfBytes};
 ghost use Rattle.remap_load.specs.Loading.{IsReadFault, ReadsAtMost};
 ghost use Rattle.remap_load.specs.Pieces.{numbers_at, count_at, bytes_at};
 ghost use Rattle.map_load.specs.MapFile.{map_bytes};
 ghost use Rattle.map_load.specs.Numbers.{numbers_in, AreAsLong};
 
-use remap_files::MapVars;
+use map_files::MapVars;
 use remap_io::Files;
 use remap_load::{Head, LoadFault, Numbers, load_numbers};
 use std::alloc::Global;

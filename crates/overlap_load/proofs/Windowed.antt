@@ -17,8 +17,8 @@ use Rattle.nc_format.specs.declared.NcFile.{NcFile}
 use Rattle.nc_format.specs.declared.NcVar.{NcVar}
 use Rattle.nc_format.specs.Numbers.{is_int}
 use Rattle.exodus_mesh.specs.MeshIn.{values_in}
-use Rattle.remap_files.specs.declared.faults.FileFault.{FileFault}
-use Rattle.remap_files.specs.declared.faults.FileFault.TheVariants.{Name, Row, AreaA, AreaB, NoMemory}
+use Rattle.exodus_mesh.specs.declared.faults.FileFault.{FileFault}
+use Rattle.exodus_mesh.specs.declared.faults.FileFault.TheVariants.{Name, Row, AreaA, AreaB, NoMemory}
 use Rattle.remap_files.specs.declared.vars.OverlapVars.{OverlapVars}
 use Rattle.remap_files.specs.OverlapNames.{overlap_vars_in}
 use Rattle.remap_files.specs.OverlapIn.{lists_in}

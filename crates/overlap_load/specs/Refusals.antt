@@ -3,8 +3,8 @@ use Rattle.std.specs.Prelude.{◌≡◌, ℤ, List, Err, ⊤}
 use Rattle.nc_format.specs.declared.NcFile.{NcFile}
 use Rattle.exodus_mesh.specs.declared.ids.NameFault.{NameFault}
 use Rattle.exodus_mesh.specs.declared.ids.NameFault.TheVariants as of_names
-use Rattle.remap_files.specs.declared.faults.FileFault.{FileFault}
-use Rattle.remap_files.specs.declared.faults.FileFault.TheVariants.{Name, Row, AreaA, AreaB, NoMemory}
+use Rattle.exodus_mesh.specs.declared.faults.FileFault.{FileFault}
+use Rattle.exodus_mesh.specs.declared.faults.FileFault.TheVariants.{Name, Row, AreaA, AreaB, NoMemory}
 use Rattle.remap_files.specs.declared.vars.OverlapVars.{OverlapVars}
 use Rattle.remap_files.specs.OverlapNames.{overlap_vars_in}
 use Rattle.remap_files.specs.OverlapRows.{overlap_of}

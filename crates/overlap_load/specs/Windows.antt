@@ -6,8 +6,8 @@ use Rattle.clip.specs.Overlaps.{OverlapParts, IsSoundPiece, IsSoundOverlap}
 use Rattle.remap_io.specs.Folder.{Folder, OnFile}
 use Rattle.nc_write.specs.Kinds.{size_of}
 use Rattle.nc_format.specs.declared.NcVar.{NcVar}
-use Rattle.remap_files.specs.declared.faults.FileFault.{FileFault}
-use Rattle.remap_files.specs.declared.faults.FileFault.TheVariants.{Name, Row, AreaA, AreaB, NoMemory}
+use Rattle.exodus_mesh.specs.declared.faults.FileFault.{FileFault}
+use Rattle.exodus_mesh.specs.declared.faults.FileFault.TheVariants.{Name, Row, AreaA, AreaB, NoMemory}
 use Rattle.remap_files.specs.declared.vars.OverlapVars.{OverlapVars}
 use Rattle.remap_files.specs.OverlapNames.{overlap_vars_in}
 use Rattle.remap_files.specs.OverlapIn.{lists_in}

@@ -4,7 +4,7 @@ ghost use Rattle.clip.specs.Overlaps.{OverlapParts};
 ghost use Rattle.remap_io.specs.Folder.{Folder, file_at};
 ghost use Rattle.nc_format.specs.declared.NcFile.{NcFile};
 ghost use Rattle.nc_format.specs.Header.{IsHeader};
-ghost use Rattle.remap_files.specs.declared.faults.FileFault.{FileFault};
+ghost use Rattle.exodus_mesh.specs.declared.faults.FileFault.{FileFault};
 ghost use Rattle.remap_files.specs.declared.vars.OverlapVars.{OverlapVars};
 ghost use Rattle.remap_files.specs.OverlapNames.{overlap_vars_in};
 ghost use Rattle.remap_load.specs.declared.refusal.FileRefusal.{FileRefusal};

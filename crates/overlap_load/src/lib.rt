@@ -8,7 +8,7 @@ mod windows;
 
 pub use laws::law_one_overlap_file;
 pub use loading::load_overlap;
-use remap_files::FileFault;
+use exodus_mesh::FileFault;
 use remap_load::FileRefusal;
 pub use windows::{OverlapReader, open_overlap};
 

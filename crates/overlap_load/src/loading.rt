@@ -4,7 +4,7 @@ ghost use Rattle.clip.specs.Overlaps.{OverlapParts};
 ghost use Rattle.remap_io.specs.Folder.{Folder, OnFile};
 ghost use Rattle.remap_io.specs.Outside.{OnlyReads};
 ghost use Rattle.nc_format.specs.Sound.{IsSound};
-ghost use Rattle.remap_files.specs.declared.faults.FileFault.{FileFault};
+ghost use Rattle.exodus_mesh.specs.declared.faults.FileFault.{FileFault};
 ghost use Rattle.remap_files.specs.OverlapNames.{overlap_vars_in};
 ghost use Rattle.remap_files.specs.OverlapIn.{lists_in};
 ghost use Rattle.remap_files.specs.OverlapRows.{overlap_of, overlap_lens};

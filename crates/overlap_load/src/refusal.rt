@@ -3,8 +3,7 @@ ghost use Rattle.std.specs.Prelude.{◌≡◌};
 ghost use Rattle.overlap_load.specs.Refusals.{refusal_of_names, refusal_of_rows};
 
 use crate::OverlapRefusal;
-use exodus_mesh::NameFault;
-use remap_files::FileFault;
+use exodus_mesh::{FileFault, NameFault};
 use remap_load::{FileRefusal, LoadFault};
 
 /// The refusal of a fault of names.

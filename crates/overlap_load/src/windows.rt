@@ -19,10 +19,9 @@ ghost use Rattle.overlap_load.specs.Windows.{corner_place, without_corners, byte
 use crate::OverlapRefusal;
 use crate::loading::named_vars;
 use clip::Piece;
+use exodus_mesh::FileFault;
 use nc_format::NcFile;
-use remap_files::{
-    FileFault, OverlapRows, OverlapVars, check_rows, piece_of_row, ring_len, rows_of,
-};
+use remap_files::{OverlapRows, OverlapVars, check_rows, piece_of_row, ring_len, rows_of};
 use remap_io::Files;
 use remap_load::{FileRefusal, Head, LoadFault, load_header, load_ints, load_lists, load_part};
 use std::alloc::{AllocError, Global};

@@ -15,12 +15,15 @@ use Rattle.exodus_mesh.specs.VarLens.{same_len, var_len, var_lens, IsNumberVar}
 use Rattle.exodus_mesh.specs.MeshNames.{place_of}
 use Rattle.exodus_mesh.specs.Found.{IsIntVar, IsSomeIntVar}
 use Rattle.exodus_mesh.proofs.NumberVars.{value_ok, ok_same, if_ok, var_len_ok, var_lens_ok, same_ok}
+use Rattle.exodus_mesh.specs.Columns.{column_in}
+use Rattle.exodus_mesh.specs.Pairs.{is_within}
+use Rattle.exodus_mesh.proofs.FoundColumns.{column_ok}
+use Rattle.exodus_mesh.proofs.GoodPairs.{within}
 use Rattle.exodus_mesh.proofs.VarValues.{len_values, lens_values}
 use Rattle.remap_files.specs.declared.vars.OverlapVars.{OverlapVars}
-use Rattle.remap_files.specs.OverlapNames.{is_within, att_in, count_in, column_in, planes_in, corner_in, five_in, no_vars, overlap_vars_in}
+use Rattle.remap_files.specs.OverlapNames.{att_in, count_in, planes_in, corner_in, five_in, no_vars, overlap_vars_in}
 use Rattle.remap_files.specs.OverlapRows.{overlap_lens}
 use Rattle.remap_files.specs.OverlapIn.{lists_in}
-use Rattle.remap_files.proofs.GoodRows.{within}
 
 count_ok : (low high : ℕ) (file : NcFile) (id : NameId) (n : ℕ) → count_in low high file id ≡ Ok n → (low ≤ n) × (n ≤ high)
 unfolding count_in
@@ -29,15 +32,6 @@ count_ok low high file id n h =
     let q = if_ok (is_within low high p.0) (unsigned_abs p.0) n (Shape id) p.2 in
     let w = within low high p.0 q.0 in
     (subst (λ (k : ℕ). low ≤ k) q.1 w.0, subst (λ (k : ℕ). k ≤ high) q.1 w.1)
-
-pub column_ok : (file : NcFile) (kind : NumberKind) (pieces : ℕ) (id : NameId) (place : ℕ) → column_in file kind pieces id ≡ Ok place → IsNumberVar kind file (pieces ∷ []) place
-unfolding column_in
-column_ok file kind pieces id place h =
-    let p = value_ok (found_or (Missing id) (place_of file id)) (λ at. var_len file kind id at >>= λ len. same_len id pieces len >>= λ same. Ok at) place h in
-    let q = value_ok (var_len file kind id p.0) (λ len. same_len id pieces len >>= λ same. Ok p.0) place p.2 in
-    let r = value_ok (same_len id pieces q.0) (λ same. Ok p.0) place q.2 in
-    let len : q.0 ≡ pieces = (same_ok id pieces q.0 r.0 r.1).0 in
-    subst (λ (k : ℕ). IsNumberVar kind file (pieces ∷ []) k) (ok_same p.0 place r.2) (subst (λ (n : ℕ). IsNumberVar kind file (n ∷ []) p.0) len (var_len_ok file kind id p.0 q.0 q.1))
 
 planes_ok : (file : NcFile) (both : ℕ × ℕ) → planes_in file ≡ Ok both → IsIntVar file (both.1 ∷ []) both.0
 unfolding planes_in

@@ -11,24 +11,12 @@ use Rattle.clip.specs.declared.pieces.Piece.{Piece}
 use Rattle.clip.specs.Overlaps.{IsBefore, IsRingNumber, IsFaceCount, IsSoundPiece, IsSoundOverlap}
 use Rattle.clip.proofs.PieceOrder.{before_trans}
 use Rattle.remap_files.specs.declared.vars.OverlapVars.{OverlapVars}
-use Rattle.remap_files.specs.OverlapNames.{is_within}
-use Rattle.remap_files.specs.OverlapRows.{Columns, at_row, exceeds, has_good_faces, ring_begin, ring_len, ring_at, has_good_ring, is_good_row, piece_at, row_fault, overlap_at}
+use Rattle.exodus_mesh.specs.Pairs.{is_within, at_row, exceeds, has_good_faces}
+use Rattle.exodus_mesh.proofs.GoodPairs.{both_true, within, before_by, IsGoodPair, good_pair, some_row, before_last, same_or_less}
+use Rattle.remap_files.specs.OverlapRows.{Columns, ring_begin, ring_len, ring_at, has_good_ring, is_good_row, piece_at, row_fault, overlap_at}
 use Rattle.remap_files.specs.Rows.{IsGoodRing}
 use Rattle.remap_files.proofs.RowFaults.{AreGood, all_are_good}
 use Rattle.remap_files.proofs.Triples.{length_rows}
-
-pub both_true : (a b : Bool) → (a && b) ≡ true → (a ≡ true) × (b ≡ true)
-both_true true true h = (refl, refl)
-both_true true false h = absurd cc
-both_true false b h = absurd cc
-
-either_true : (a b : Bool) → (a || b) ≡ true → (a ≡ true) ⊎ (b ≡ true)
-either_true true b h = inl refl
-either_true false b h = inr h
-
-pub within : (low high : ℕ) (z : ℤ) → is_within low high z ≡ true → (low ≤ unsigned_abs z) × (unsigned_abs z ≤ high) × (z ≡ pos (unsigned_abs z))
-within low high (pos n) h = (grind (arith, ints, h), grind (arith, ints, h), refl)
-within low high (negsuc n) h = absurd (grind (arith, ints, h))
 
 pub ring_numbers : (low high : ℕ) (zs : List ℤ) → list_all (is_within low high) zs ≡ true → All (λ z. (low ≤ unsigned_abs z) × (unsigned_abs z ≤ high)) zs
 ring_numbers low high [] h = All-from_recursion (λ z. (low ≤ unsigned_abs z) × (unsigned_abs z ≤ high)) [] tt
@@ -55,57 +43,8 @@ good_ring ring_size ring_plane r h =
 pub row_ring : (v : OverlapVars) (c : Columns) (r : ℕ) → is_good_row v.faces_a v.faces_b c r ≡ true → IsGoodRing c.ring_size c.ring_plane r
 row_ring v c r h = good_ring c.ring_size c.ring_plane r (both_true (has_good_faces v.faces_a v.faces_b c.source c.target r) (has_good_ring c.ring_size c.ring_plane r) h).1
 
-less_than : (a c : ℤ) → a ≡ pos (unsigned_abs a) → c ≡ pos (unsigned_abs c) → int_lt a c ≡ true → unsigned_abs a < unsigned_abs c
-less_than (pos m) (pos n) ea ec h = grind (arith, ints, h)
-less_than (pos m) (negsuc n) ea ec h = absurd cc
-less_than (negsuc m) c ea ec h = absurd cc
-
-pub before_by : (a b c d : ℤ) → a ≡ pos (unsigned_abs a) → b ≡ pos (unsigned_abs b) → c ≡ pos (unsigned_abs c) → d ≡ pos (unsigned_abs d) → exceeds a b c d ≡ true
-    → (unsigned_abs a < unsigned_abs c) ⊎ ((unsigned_abs a ≡ unsigned_abs c) × (unsigned_abs b < unsigned_abs d))
-before_by a b c d ea eb ec ed h =
-    elim (either_true (int_lt a c) (int_eq a c && int_lt b d) h) [
-      | inl less ↦ inl (less_than a c ea ec less)
-      | inr same ↦
-          let both = both_true (int_eq a c) (int_lt b d) same in
-          inr (ap unsigned_abs ((Decides-int_eq a c).0 both.0), less_than b d eb ed both.1)
-    ]
-
--- the faces of a row at no fault
-pub record IsGoodPair (faces_a faces_b : ℕ) (source target : List ℤ) (r : ℕ) : Type 0 where
-  pub least_source : 1 ≤ unsigned_abs (at_row source r)
-  pub greatest_source : unsigned_abs (at_row source r) ≤ faces_a
-  pub source_is : at_row source r ≡ pos (unsigned_abs (at_row source r))
-  pub least_target : 1 ≤ unsigned_abs (at_row target r)
-  pub greatest_target : unsigned_abs (at_row target r) ≤ faces_b
-  pub target_is : at_row target r ≡ pos (unsigned_abs (at_row target r))
-  pub order : ((r == 0) ≡ true) ⊎ (exceeds (at_row source (r - 1)) (at_row target (r - 1)) (at_row source r) (at_row target r) ≡ true)
-
-pub good_pair : (faces_a faces_b : ℕ) (source target : List ℤ) (r : ℕ) → has_good_faces faces_a faces_b source target r ≡ true → IsGoodPair faces_a faces_b source target r
-unfolding has_good_faces
-good_pair faces_a faces_b source target r h =
-    let after = exceeds (at_row source (r - 1)) (at_row target (r - 1)) (at_row source r) (at_row target r) in
-    let p = both_true (is_within 1 faces_a (at_row source r) && is_within 1 faces_b (at_row target r)) (r == 0 || after) h in
-    let q = both_true (is_within 1 faces_a (at_row source r)) (is_within 1 faces_b (at_row target r)) p.0 in
-    let s = within 1 faces_a (at_row source r) q.0 in
-    let t = within 1 faces_b (at_row target r) q.1 in
-    record {
-      least_source = s.0;
-      greatest_source = s.1;
-      source_is = s.2;
-      least_target = t.0;
-      greatest_target = t.1;
-      target_is = t.2;
-      order = either_true (r == 0) after p.1;
-    }
-
 row_pair : (v : OverlapVars) (c : Columns) (r : ℕ) → is_good_row v.faces_a v.faces_b c r ≡ true → IsGoodPair v.faces_a v.faces_b c.source c.target r
 row_pair v c r h = good_pair v.faces_a v.faces_b c.source c.target r (both_true (has_good_faces v.faces_a v.faces_b c.source c.target r) (has_good_ring c.ring_size c.ring_plane r) h).0
-
-pub some_row : (j : ℕ) → (suc j == 0) ≡ true → ⊥
-some_row j h = grind (arith, nat_tests, h)
-
-pub before_last : (j : ℕ) → suc j - 1 ≡ j
-before_last j = omega arith
 
 -- the piece of each row comes before that of the next
 next_before : (v : OverlapVars) (c : Columns) (j : ℕ) → is_good_row v.faces_a v.faces_b c j ≡ true → is_good_row v.faces_a v.faces_b c (suc j) ≡ true → IsBefore (piece_at c j) (piece_at c (suc j))
@@ -119,9 +58,6 @@ next_before v c j h k =
           before_by (at_row c.source j) (at_row c.target j) (at_row c.source (suc j)) (at_row c.target (suc j)) p.source_is p.target_is q.source_is q.target_is
           (subst (λ i. exceeds (at_row c.source i) (at_row c.target i) (at_row c.source (suc j)) (at_row c.target (suc j)) ≡ true) (before_last j) after)
     ]
-
-pub same_or_less : (i j : ℕ) → i < suc j → (i < j) ⊎ (i ≡ j)
-same_or_less i j h = grind arith
 
 rows_before : (v : OverlapVars) (c : Columns) (n : ℕ) → AreGood v c n → (i j : ℕ) → i < j → j < n → IsBefore (piece_at c i) (piece_at c j)
 rows_before v c n all i zero below last = absurd (omega (arith, below))

@@ -1,6 +1,5 @@
 pub mod OverlapLength
 mod Triples
-mod FirstNot
 pub mod RowFaults
 pub mod GoodRows
 pub mod FoundOverlap
@@ -9,8 +8,3 @@ mod RowsAgain
 pub mod OverlapAgain
 mod Taken
 mod ColumnCounts
-pub mod MapLength
-pub mod FoundMap
-mod MapFaults
-pub mod ReadMaps
-pub mod MapAgain

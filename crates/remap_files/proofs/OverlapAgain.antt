@@ -28,7 +28,9 @@ use Rattle.exodus_mesh.specs.VarLens.{lens_at, var_len, var_lens}
 use Rattle.remap_files.specs.declared.vars.OverlapVars.{OverlapVars}
 use Rattle.clip.specs.Columns.{source_column, target_column, ring_size_column, ring_numbers, ring_plane_column, triple_of, corner_numbers, corner_column}
 use Rattle.remap_files.specs.OverlapDocument.{attribute_of, corner_count_of, overlap_document, IsCorner, HasCorners, HasRingSize}
-use Rattle.remap_files.specs.OverlapNames.{is_within, att_in, count_in, column_in, planes_in, corner_in, five_in, no_vars, overlap_vars_in}
+use Rattle.exodus_mesh.specs.Pairs.{is_within}
+use Rattle.remap_files.specs.OverlapNames.{att_in, count_in, planes_in, corner_in, five_in, no_vars, overlap_vars_in}
+use Rattle.exodus_mesh.specs.Columns.{column_in}
 use Rattle.remap_files.specs.OverlapRows.{overlap_of}
 use Rattle.remap_files.specs.OverlapIn.{lists_in, overlap_in}
 use Rattle.exodus_mesh.proofs.NodesAgain.{triple_is}

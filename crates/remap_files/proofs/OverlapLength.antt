@@ -19,7 +19,9 @@ use Rattle.nc_write.proofs.PartLengths.{header_len_is}
 use Rattle.nc_write.proofs.Places.{length_fixed_data, length_file_of_fixed}
 use Rattle.exodus_mesh.proofs.DocLengths.{width_is, var_length, ints_length, not_zero, not_none, full_len}
 use Rattle.clip.specs.Columns.{source_column, target_column, ring_size_column, ring_numbers, ring_plane_column, triple_of, corner_numbers, corner_column}
-use Rattle.remap_files.specs.OverlapDocument.{variable_of, HasRingSize, corner_count_of, overlap_atts, overlap_dims, overlap_vars, overlap_document, overlap_file_len}
+use Rattle.exodus_mesh.specs.Columns.{variable_of}
+use Rattle.exodus_mesh.proofs.DocSums.{sum_of_five}
+use Rattle.remap_files.specs.OverlapDocument.{HasRingSize, corner_count_of, overlap_atts, overlap_dims, overlap_vars, overlap_document, overlap_file_len}
 
 -- Pieces.
 
@@ -79,10 +81,6 @@ atts_length faces_a faces_b pieces = refl
 name_lengths : (length (name_bytes 2 (codes "source")) ≡ 12) × (length (name_bytes 2 (codes "target")) ≡ 12) × (length (name_bytes 2 (codes "ring_size")) ≡ 16) × (length (name_bytes 2 (codes "ring_plane")) ≡ 16) × (length (name_bytes 2 (codes "corner")) ≡ 12)
 unfolding name_bytes number_bytes width
 name_lengths = (refl, refl, refl, refl, refl)
-
-pub sum_of_five : (f : DocVar → ℕ) (a b c d e : DocVar) → sum_by f (a ∷ b ∷ c ∷ d ∷ e ∷ []) ≡ f a + f b + f c + f d + f e
-sum_of_five f a b c d e =
-    omega (arith, sum_by-cons f a (b ∷ c ∷ d ∷ e ∷ []), sum_by-cons f b (c ∷ d ∷ e ∷ []), sum_by-cons f c (d ∷ e ∷ []), sum_by-cons f d (e ∷ []), sum_by-cons f e [])
 
 -- the header of a document with these dimensions, attributes and variables
 parts_length : (doc : NcDoc) (pieces : List Piece) (faces_a faces_b : ℕ) → version_of doc ≡ 2 → doc.dims ≡ overlap_dims (length pieces) (corner_count_of pieces) → doc.atts ≡ overlap_atts faces_a faces_b (length pieces) → doc.vars ≡ overlap_vars pieces → header_len doc ≡ 392

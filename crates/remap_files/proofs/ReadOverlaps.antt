@@ -5,8 +5,8 @@ use Rattle.nc_format.specs.Answers.{IsFaultOf}
 use Rattle.exodus_mesh.specs.declared.ids.NameFault.{NameFault}
 use Rattle.exodus_mesh.specs.declared.ids.NameFault.TheVariants as names
 use Rattle.remap_files.specs.declared.vars.OverlapVars.{OverlapVars}
-use Rattle.remap_files.specs.declared.faults.FileFault.TheVariants.{Name, NoMemory}
-use Rattle.remap_files.specs.Answers.{file_fault_of}
+use Rattle.exodus_mesh.specs.declared.faults.FileFault.TheVariants.{Name, NoMemory}
+use Rattle.exodus_mesh.specs.Answers.{file_fault_of}
 use Rattle.remap_files.specs.OverlapNames.{overlap_vars_in}
 use Rattle.remap_files.specs.OverlapRows.{overlap_of}
 use Rattle.remap_files.specs.OverlapIn.{lists_in, if_named, overlap_in}

@@ -6,10 +6,10 @@ use Rattle.std.proofs.lemmas.Bool.Decides.{nat_tests}
 use Rattle.std.proofs.lemmas.List.Sums.{sum_by_push}
 use Rattle.std.proofs.Math.Seq.{take-suc}
 use Rattle.remap_files.specs.declared.vars.OverlapVars.{OverlapVars}
-use Rattle.remap_files.specs.declared.faults.FileFault.TheVariants.{Row}
+use Rattle.exodus_mesh.specs.declared.faults.FileFault.TheVariants.{Row}
 use Rattle.remap_files.specs.OverlapRows.{Columns, columns_of, ring_begin, ring_len, is_good_row, first_fault, rest_fault, row_fault, unless_fault, overlap_at, overlap_from, overlap_of, overlap_lens, piece_at}
 use Rattle.remap_files.specs.Rows.{HasLens, HasRowLens, with_corners, piece_with}
-use Rattle.remap_files.proofs.FirstNot.{one_more_good as one_more, first_is, none_is, all_good}
+use Rattle.exodus_mesh.proofs.FirstNot.{one_more_good as one_more, first_is, none_is, all_good}
 
 -- rows up to a number are at no fault
 abbrev pub AreGood : OverlapVars → Columns → ℕ → Type 0

@@ -16,8 +16,9 @@ use Rattle.exodus_mesh.specs.MeshValues.{rows_of}
 use Rattle.remap_files.specs.declared.vars.OverlapVars.{OverlapVars}
 use Rattle.clip.specs.Columns.{source_column, target_column, ring_size_column, ring_numbers, ring_plane_column, triple_of, corner_numbers, corner_column}
 use Rattle.remap_files.specs.OverlapDocument.{corner_count_of, IsCorner, HasCorners}
-use Rattle.remap_files.specs.OverlapNames.{is_within}
-use Rattle.remap_files.specs.OverlapRows.{Columns, at_row, exceeds, has_good_faces, ring_begin, ring_len, ring_at, has_good_ring, piece_of, piece_at, row_fault}
+use Rattle.exodus_mesh.specs.Pairs.{is_within, at_row, exceeds, has_good_faces}
+use Rattle.exodus_mesh.proofs.GoodPairs.{and_true, or_true, within_true, less_true}
+use Rattle.remap_files.specs.OverlapRows.{Columns, ring_begin, ring_len, ring_at, has_good_ring, piece_of, piece_at, row_fault}
 use Rattle.exodus_mesh.proofs.NodesAgain.{triple_is}
 use Rattle.remap_files.proofs.OverlapLength.{length_planes, length_corners, HasItsCorners}
 use Rattle.remap_files.proofs.RowFaults.{AreGood, no_fault}
@@ -123,20 +124,6 @@ piece_again pieces r below matched typed =
     ∙ ap (λ l. let p : Piece = record { a = q.a; b = q.b; ring = record { items = l }; corners = q.corners } in p) (numbers_again q.ring.items)
 
 -- No row is at fault.
-
-pub and_true : (a b : Bool) → a ≡ true → b ≡ true → (a && b) ≡ true
-and_true true b ha hb = hb
-and_true false b ha hb = absurd cc
-
-pub or_true : (a b : Bool) → b ≡ true → (a || b) ≡ true
-or_true true b h = refl
-or_true false b h = h
-
-pub within_true : (low high n : ℕ) → low ≤ n → n ≤ high → is_within low high (pos n) ≡ true
-within_true low high n le ge = grind (arith, ints, le, ge)
-
-pub less_true : (m n : ℕ) → m < n → int_lt (pos m) (pos n) ≡ true
-less_true m n h = grind (arith, ints, h)
 
 exceeds_true : (p q : Piece) → IsBefore p q → exceeds (pos p.a) (pos p.b) (pos q.a) (pos q.b) ≡ true
 exceeds_true p q h =

@@ -1,12 +1,6 @@
 pub mod OverlapDocument
-pub mod Answers
 pub mod OverlapNames
 pub mod OverlapRows
 pub mod OverlapIn
 pub mod Rows
 pub mod InColumns
-pub mod FirstNot
-pub mod MapDocument
-pub mod MapNames
-pub mod MapValues
-pub mod MapIn

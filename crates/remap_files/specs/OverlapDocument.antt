@@ -13,12 +13,10 @@ use Rattle.nc_write.specs.declared.Values.{Values}
 use Rattle.nc_write.specs.declared.Values.TheVariants.{Byte, Int}
 use Rattle.nc_write.specs.Extents.{rounded}
 use Rattle.exodus_mesh.specs.MeshDocument.{dimension_of}
+use Rattle.exodus_mesh.specs.Columns.{variable_of}
 
 abbrev pub attribute_of : List ℕ → ℕ → DocAtt
 attribute_of name value = record { name = name; value = pos value }
-
-abbrev pub variable_of : List ℕ → List ℕ → Values → DocVar
-variable_of name dims values = record { name = name; dims = dims; values = values }
 
 -- how many places all rings have together
 abbrev pub corner_count_of : List Piece → ℕ

@@ -5,8 +5,8 @@ use Rattle.nc_format.specs.declared.NcFile.{NcFile}
 use Rattle.exodus_mesh.specs.declared.ids.NameFault.{NameFault}
 use Rattle.exodus_mesh.specs.MeshIn.{values_in}
 use Rattle.remap_files.specs.declared.vars.OverlapVars.{OverlapVars}
-use Rattle.remap_files.specs.declared.faults.FileFault.{FileFault}
-use Rattle.remap_files.specs.declared.faults.FileFault.TheVariants.{Name}
+use Rattle.exodus_mesh.specs.declared.faults.FileFault.{FileFault}
+use Rattle.exodus_mesh.specs.declared.faults.FileFault.TheVariants.{Name}
 use Rattle.remap_files.specs.OverlapNames.{overlap_vars_in}
 use Rattle.remap_files.specs.OverlapRows.{overlap_of}
 

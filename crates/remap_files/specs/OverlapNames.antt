@@ -12,11 +12,9 @@ use Rattle.exodus_mesh.specs.declared.ids.NameFault.TheVariants.{Missing, Shape,
 use Rattle.exodus_mesh.specs.Names.{◌>>=◌, name_of, found_or}
 use Rattle.exodus_mesh.specs.VarLens.{same_len, var_len, var_lens}
 use Rattle.exodus_mesh.specs.MeshNames.{place_of}
+use Rattle.exodus_mesh.specs.Columns.{column_in}
+use Rattle.exodus_mesh.specs.Pairs.{is_within}
 use Rattle.remap_files.specs.declared.vars.OverlapVars.{OverlapVars}
-
--- from low to high
-abbrev pub is_within : ℕ → ℕ → ℤ → Bool
-is_within low high z = int_le (pos low) z && int_le z (pos high)
 
 -- 1. The first global attribute of a name is one integer.
 unfoldable pub att_in : NcFile → NameId → Result ℤ NameFault
@@ -30,15 +28,7 @@ count_in low high file id = do
   z ← att_in file id
   if is_within low high z then Ok (unsigned_abs z) else Err (Shape id)
 
--- 2. A variable of one dimension, with so many numbers.
-unfoldable pub column_in : NcFile → NumberKind → ℕ → NameId → Result ℕ NameFault
-column_in file kind count id = do
-  place ← found_or (Missing id) (place_of file id)
-  len ← var_len file kind id place
-  same ← same_len id count len
-  Ok place
-
--- the variable of all rings, with its one length
+-- 2. The variable of all rings, with its one length
 unfoldable pub planes_in : NcFile → Result (ℕ × ℕ) NameFault
 planes_in file = do
   place ← found_or (Missing RingPlane) (place_of file RingPlane)

@@ -7,10 +7,10 @@ use Rattle.clip.specs.declared.pieces.Piece.{Piece}
 use Rattle.clip.specs.Overlaps.{OverlapParts}
 use Rattle.exodus_mesh.specs.MeshValues.{rows_of}
 use Rattle.remap_files.specs.declared.vars.OverlapVars.{OverlapVars}
-use Rattle.remap_files.specs.declared.faults.FileFault.{FileFault}
-use Rattle.remap_files.specs.declared.faults.FileFault.TheVariants.{Row}
-use Rattle.remap_files.specs.OverlapNames.{is_within}
-use Rattle.remap_files.specs.FirstNot.{first_not}
+use Rattle.exodus_mesh.specs.declared.faults.FileFault.{FileFault}
+use Rattle.exodus_mesh.specs.declared.faults.FileFault.TheVariants.{Row}
+use Rattle.exodus_mesh.specs.Pairs.{is_within, at_row, has_good_faces}
+use Rattle.exodus_mesh.specs.FirstNot.{first_not}
 
 -- the numbers of the five variables
 pub record Columns : Type 0 where
@@ -33,21 +33,6 @@ columns_of values = record {
 -- how many numbers each variable has; without a piece there is none
 abbrev pub overlap_lens : OverlapVars → List ℕ
 overlap_lens v = if v.pieces == 0 then [] else (v.pieces ∷ v.pieces ∷ v.pieces ∷ v.corners ∷ 3 * v.corners ∷ [])
-
--- the number of row r
-abbrev pub at_row : List ℤ → ℕ → ℤ
-at_row column r = slice_index_or column r (pos 0)
-
--- the pair (c, d) exceeds the pair (a, b)
-abbrev pub exceeds : ℤ → ℤ → ℤ → ℤ → Bool
-exceeds a b c d = int_lt a c || (int_eq a c && int_lt b d)
-
--- the faces of row r are faces of the meshes, and the pair of them exceeds that of the row before
-unfoldable pub has_good_faces : ℕ → ℕ → List ℤ → List ℤ → ℕ → Bool
-has_good_faces faces_a faces_b source target r =
-    is_within 1 faces_a (at_row source r)
-    && is_within 1 faces_b (at_row target r)
-    && (r == 0 || exceeds (at_row source (r - 1)) (at_row target (r - 1)) (at_row source r) (at_row target r))
 
 -- the ring of row r begins where those of the rows before it end
 unfoldable pub ring_begin : List ℤ → ℕ → ℕ

@@ -3,7 +3,8 @@ use Rattle.std.specs.Prelude.{◌≡◌, ℕ, ◌+◌, ◌*◌, ◌≤◌, ℤ, 
 use Rattle.clip.specs.declared.pieces.Piece.{Piece}
 use Rattle.exodus_mesh.specs.MeshValues.{rows_of}
 use Rattle.remap_files.specs.declared.vars.OverlapVars.{OverlapVars}
-use Rattle.remap_files.specs.OverlapRows.{Columns, at_row, ring_begin, ring_len, ring_at, piece_of}
+use Rattle.remap_files.specs.OverlapRows.{Columns, ring_begin, ring_len, ring_at, piece_of}
+use Rattle.exodus_mesh.specs.Pairs.{at_row}
 
 -- how many numbers each of the five columns has, where there is a piece
 pub record HasLens (v : OverlapVars) (c : Columns) : Type 0 where

@@ -1,18 +1,19 @@
 // The document of an overlap whose pieces stand in columns.
-ghost use Rattle.std.specs.Prelude.{◌≡◌, ◌≤◌, ◌*◌, length, IfOk};
+ghost use Rattle.std.specs.Prelude.{◌≡◌, ◌≤◌, ◌*◌, length, IfOk, List, [], ◌∷◌, codes};
 ghost use Rattle.nc_write.specs.File.{file_of};
 ghost use Rattle.nc_write.specs.Form.{IsWellFormed};
+ghost use Rattle.nc_write.specs.declared.Values.TheVariants.{Byte, Int};
+ghost use Rattle.exodus_mesh.specs.Columns.{variable_of};
 ghost use Rattle.clip.specs.Columns.{AreColumnsOf};
 ghost use Rattle.clip.specs.Overlaps.{OverlapParts};
 ghost use Rattle.clip.specs.declared.pieces.Piece.{Piece as OnePiece};
-ghost use Rattle.std.specs.Prelude.{List};
 ghost use Rattle.remap_files.specs.InColumns.{IsInColumns};
 ghost use Rattle.remap_files.specs.OverlapDocument.{corner_count_of, overlap_vars, overlap_document};
 
 use crate::document::{bytes, ints, make_attributes, make_dimensions};
 use crate::lengths::overlap_length;
-use crate::names::make_variable;
 use clip::Columns;
+use exodus_mesh::put_variable;
 use nc_write::{DocAtts, DocDims, DocVar, DocVars, NcDoc};
 use std::alloc::{AllocError, Global};
 use vec_exact::NoMemory;
@@ -34,17 +35,40 @@ fn counts(columns: &Columns, faces_a: u32, faces_b: u32) -> (u32, u32)
     )
 }
 
+// The three variables with a number for each piece.
+fn piece_variables(
+    alloc: Global,
+    sources: Vec<i32>,
+    targets: Vec<i32>,
+    ring_sizes: Vec<i8>,
+) -> Result<Vec<DocVar>, AllocError>
+    ensures { IfOk result (λ vars. vars.items
+        ≡ variable_of (codes "source") (0 ∷ []) (Int sources.items)
+        ∷ variable_of (codes "target") (0 ∷ []) (Int targets.items)
+        ∷ variable_of (codes "ring_size") (0 ∷ []) (Byte ring_sizes.items)
+        ∷ []) }
+{
+    let mut vars = Vec::with_capacity(alloc, 5)?;
+    put_variable(alloc, &mut vars, "source", &[0], ints(sources))?;
+    put_variable(alloc, &mut vars, "target", &[0], ints(targets))?;
+    put_variable(alloc, &mut vars, "ring_size", &[0], bytes(ring_sizes))?;
+    Ok(vars)
+}
+
 // The five variables, which take over the columns.
 fn column_variables(alloc: Global, columns: Columns) -> Result<Vec<DocVar>, AllocError>
     ensures { (pieces : List OnePiece) → AreColumnsOf pieces columns
         → IfOk result (λ vars. vars.items ≡ overlap_vars pieces) }
 {
-    let mut vars = Vec::with_capacity(alloc, 5)?;
-    vars.push(make_variable(alloc, "source", &[0], ints(columns.sources))?)?;
-    vars.push(make_variable(alloc, "target", &[0], ints(columns.targets))?)?;
-    vars.push(make_variable(alloc, "ring_size", &[0], bytes(columns.ring_sizes))?)?;
-    vars.push(make_variable(alloc, "ring_plane", &[1], bytes(columns.ring_planes))?)?;
-    vars.push(make_variable(alloc, "corner", &[1, 2], ints(columns.corners))?)?;
+    let mut vars = piece_variables(alloc, columns.sources, columns.targets, columns.ring_sizes)?;
+    put_variable(
+        alloc,
+        &mut vars,
+        "ring_plane",
+        &[1],
+        bytes(columns.ring_planes),
+    )?;
+    put_variable(alloc, &mut vars, "corner", &[1, 2], ints(columns.corners))?;
     Ok(vars)
 }
 

@@ -7,21 +7,17 @@ ghost use Rattle.vec_exact.specs.Answers.{Answers};
 ghost use Rattle.nc_format.specs.Answers.{IsFaultOf};
 ghost use Rattle.exodus_mesh.specs.declared.ids.NameFault.TheVariants.{NoMemory};
 ghost use Rattle.exodus_mesh.specs.Names.{name_of};
-ghost use Rattle.remap_files.specs.OverlapNames.{is_within, att_in, count_in, column_in, planes_in, corner_in, five_in, overlap_vars_in};
+ghost use Rattle.exodus_mesh.specs.Pairs.{is_within};
+ghost use Rattle.remap_files.specs.OverlapNames.{att_in, count_in, planes_in, corner_in, five_in, overlap_vars_in};
+ghost use Rattle.exodus_mesh.specs.Columns.{column_in};
 
 use crate::OverlapVars;
-use exodus_mesh::{NameFault, NameId, NumberKind, find_named, var_len, var_lens};
+use exodus_mesh::{
+    NameFault, NameId, NumberKind, find_column, find_named, is_within, var_len, var_lens,
+};
 use nc_format::{NcAtt, NcFile, int_att};
 use nc_write::DimIds;
 use std::alloc::Global;
-
-/// Whether a number is from low to high.
-pub fn is_within(low: u32, high: u32, number: i32) -> bool
-    ensures { result ≡ is_within low high number }
-{
-    let number = i64::from(number);
-    i64::from(low) <= number && number <= i64::from(high)
-}
 
 // The first attribute of a name.
 fn first_att<'a>(atts: &'a [NcAtt], name: &[u8]) -> Option<&'a NcAtt>
@@ -57,26 +53,6 @@ fn count(file: &NcFile, id: NameId, name: &[u8], low: u32, high: u32) -> Result<
         return Err(NameFault::Shape(id));
     }
     Ok(number.unsigned_abs())
-}
-
-/// The place of a variable of one dimension, with so many numbers of a kind.
-#[tactic(auto, unfolding(crate::specs::OverlapNames::column_in))]
-pub fn find_column(
-    file: &NcFile,
-    kind: NumberKind,
-    count: u32,
-    id: NameId,
-    name: &[u8],
-) -> Result<u32, NameFault>
-    requires sound { IsSound file.now }
-    requires name { name.now ≡ name_of [] id }
-    ensures { result ≡ column_in file.now kind count id }
-{
-    let place = find_named(file, id, name)?;
-    if var_len(file, kind, id, place)? != count {
-        return Err(NameFault::Shape(id));
-    }
-    Ok(place)
 }
 
 // The place and the length of the variable of all rings.

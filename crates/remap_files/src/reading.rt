@@ -2,26 +2,15 @@
 ghost use Rattle.std.specs.Prelude.{◌≡◌, length, IfOk, IfErr, Ok};
 ghost use Rattle.nc_format.specs.Header.{IsHeader};
 ghost use Rattle.nc_format.specs.Answers.{IsFaultOf};
-ghost use Rattle.remap_files.specs.declared.faults.FileFault.TheVariants.{NoMemory};
-ghost use Rattle.remap_files.specs.Answers.{file_fault_of, SaysMemoryAlone, IsOfNamesOrRows};
+ghost use Rattle.exodus_mesh.specs.declared.faults.FileFault.TheVariants.{NoMemory};
+ghost use Rattle.exodus_mesh.specs.Answers.{file_fault_of, SaysMemoryAlone, IsOfNamesOrRows};
 ghost use Rattle.remap_files.specs.OverlapIn.{overlap_in};
 
-use crate::{FileFault, find_overlap, overlap_from};
+use crate::{find_overlap, overlap_from};
 use clip::Overlap;
-use exodus_mesh::{NameFault, read_lists};
+use exodus_mesh::{FileFault, file_fault, read_lists};
 use nc_format::{NcFile, law_first_fault};
 use std::alloc::Global;
-
-// A fault of names is a fault of the file; want of memory stays want of memory.
-pub fn file_fault(fault: NameFault) -> FileFault
-    ensures fault { result ≡ file_fault_of fault }
-    ensures memory { SaysMemoryAlone result }
-{
-    match fault {
-        NameFault::NoMemory => FileFault::NoMemory,
-        _ => FileFault::Name(fault),
-    }
-}
 
 /// The overlap in the file with the bytes `bytes` and the header `file`.
 ///

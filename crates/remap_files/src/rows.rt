@@ -5,15 +5,15 @@ ghost use Rattle.exodus_mesh.specs.MeshValues.{rows_of};
 ghost use Rattle.clip.specs.Overlaps.{IsFaceCount};
 ghost use Rattle.remap_files.specs.Rows.{HasRowLens, IsGoodRing, with_corners, piece_with};
 ghost use Rattle.nc_format.specs.Answers.{IsFaultOf};
-ghost use Rattle.remap_files.specs.declared.faults.FileFault.TheVariants.{NoMemory};
-ghost use Rattle.remap_files.specs.Answers.{IsOfRows};
-ghost use Rattle.remap_files.specs.OverlapNames.{is_within};
-ghost use Rattle.remap_files.specs.OverlapRows.{columns_of, exceeds, has_good_faces, ring_begin, ring_len, has_good_ring, is_good_row, piece_at, row_fault, overlap_of, overlap_lens};
+ghost use Rattle.exodus_mesh.specs.declared.faults.FileFault.TheVariants.{NoMemory};
+ghost use Rattle.exodus_mesh.specs.Answers.{IsOfRows};
+ghost use Rattle.exodus_mesh.specs.Pairs.{is_within, exceeds, has_good_faces};
+ghost use Rattle.remap_files.specs.OverlapRows.{columns_of, ring_begin, ring_len, has_good_ring, is_good_row, piece_at, row_fault, overlap_of, overlap_lens};
 
-use crate::finding::is_within;
-use crate::{FileFault, OverlapVars};
+use crate::OverlapVars;
 use arrayvec::ArrayVec;
 use clip::{Corners, Overlap, Piece, Pieces, Ring};
+use exodus_mesh::{FileFault, has_good_faces, is_within};
 use smallvec::SmallVec;
 use std::alloc::{AllocError, Global};
 use std::marker::Model;
@@ -63,24 +63,6 @@ pub fn rows_of<'a>(values: &'a [Ints]) -> OverlapRows<'a>
         ring_size: numbers(values, 2),
         ring_plane: numbers(values, 3),
     }
-}
-
-fn exceeds(before: (i32, i32), pair: (i32, i32)) -> bool
-    ensures { result ≡ exceeds before.0 before.1 pair.0 pair.1 }
-{
-    before.0 < pair.0 || (before.0 == pair.0 && before.1 < pair.1)
-}
-
-// Whether the faces of row r, from 0, are faces of the meshes and come after those of the row before.
-#[tactic(auto, unfolding(crate::specs::OverlapRows::has_good_faces))]
-pub fn has_good_faces(faces_a: u32, faces_b: u32, source: &[i32], target: &[i32], r: usize) -> bool
-    requires source { r < length source.now }
-    requires target { r < length target.now }
-    ensures { result ≡ has_good_faces faces_a faces_b source.now target.now r }
-{
-    is_within(1, faces_a, source[r])
-        && is_within(1, faces_b, target[r])
-        && (r == 0 || exceeds((source[r - 1], target[r - 1]), (source[r], target[r])))
 }
 
 fn are_plane_numbers(ring: &[i32]) -> bool

@@ -1,4 +1,4 @@
-// The variables of an overlap and of a map in a file.
+// The variables of an overlap in a file.
 use nc_write::DimIds;
 
 /// The counts of an overlap, and where its numbers stand: how many faces the source mesh and the
@@ -11,16 +11,5 @@ pub struct OverlapVars {
     pub faces_b: u32,
     pub pieces: u32,
     pub corners: u32,
-    pub vars: DimIds,
-}
-
-/// The counts of a map, and where its numbers stand: how many faces the source mesh and the target
-/// mesh have, how many rows there are, and the places, from 0, of the variables `col`, `row`, `S`,
-/// `area_a` and `area_b` in the list of variables.
-#[derive(Drop)]
-pub struct MapVars {
-    pub n_a: u32,
-    pub n_b: u32,
-    pub n_s: u32,
     pub vars: DimIds,
 }

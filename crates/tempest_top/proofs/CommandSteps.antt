@@ -23,7 +23,7 @@ use Rattle.offline_map.specs.Maps.{map_of}
 use Rattle.offline_map.specs.MapFaults.{IsMapFaultOf}
 use Rattle.offline_map.proofs.Made.{map_is_sound}
 use Rattle.remap_files.specs.OverlapDocument.{overlap_document}
-use Rattle.remap_files.specs.MapDocument.{map_document}
+use Rattle.map_files.specs.MapDocument.{map_document}
 use Rattle.remap_chain.proofs.OneField.{no_counts_a, no_counts_b, no_row}
 use Rattle.command_line.specs.Words.{options_of}
 use Rattle.command_line.specs.declared.choices.Chosen.{Chosen}

@@ -13,7 +13,7 @@ use Rattle.field_mask.proofs.MaskedLaws.{masked_masses}
 use Rattle.offline_map.specs.Maps.{map_of}
 use Rattle.offline_map.proofs.Made.{map_is_sound}
 use Rattle.remap_files.specs.OverlapDocument.{overlap_document}
-use Rattle.remap_files.specs.MapDocument.{map_document}
+use Rattle.map_files.specs.MapDocument.{map_document}
 use Rattle.map_load.specs.MapFile.{IsMapFile, map_kind}
 use Rattle.map_load.proofs.OneMap.{map_law}
 use Rattle.field_files.specs.declared.FieldVar.{FieldVar}

@@ -5,7 +5,7 @@ use Rattle.remap_load.specs.declared.fault.LoadFault.TheVariants as load
 use Rattle.remap_load.specs.declared.refusal.FileRefusal.{FileRefusal}
 use Rattle.remap_load.specs.declared.refusal.FileRefusal.TheVariants.{Load, Content}
 use Rattle.mesh_load.specs.declared.MeshFileFault.TheVariants as of_file
-use Rattle.remap_files.specs.declared.faults.FileFault.TheVariants as of_rows
+use Rattle.exodus_mesh.specs.declared.faults.FileFault.TheVariants as of_rows
 use Rattle.offline_map.specs.declared.faults.MapFault.{MapFault}
 use Rattle.offline_map.specs.declared.faults.MapFault.TheVariants as of_map
 use Rattle.command_line.specs.declared.choices.Chosen.{Chosen}

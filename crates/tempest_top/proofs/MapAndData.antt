@@ -2,7 +2,7 @@
 use Rattle.std.proofs.Common.{ℕ, List, [], ◌∷◌, Option, refl}
 use Rattle.map_rows.specs.Maps.{MapParts}
 use Rattle.exodus_mesh.specs.declared.ids.NameFault.{NameFault}
-use Rattle.remap_files.specs.declared.faults.FileFault.{FileFault}
+use Rattle.exodus_mesh.specs.declared.faults.FileFault.{FileFault}
 use Rattle.data_load.specs.declared.DataVar.{DataVar}
 use Rattle.remap_io.specs.Outside.{FilesSeen}
 use Rattle.remap_load.specs.declared.refusal.FileRefusal.{FileRefusal}

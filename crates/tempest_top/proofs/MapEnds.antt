@@ -10,8 +10,8 @@ use Rattle.offline_map.specs.declared.faults.MapFault.{MapFault}
 use Rattle.offline_map.specs.declared.faults.MapFault.TheVariants.{CountsA, CountsB, Row, Uncovered, NoMemory}
 use Rattle.offline_map.specs.Maps.{map_of}
 use Rattle.offline_map.specs.MapFaults.{IsMapFaultOf, IsMappable}
-use Rattle.remap_files.specs.MapDocument.{map_document}
-use Rattle.remap_files.proofs.MapLength.{length_map_file}
+use Rattle.map_files.specs.MapDocument.{map_document}
+use Rattle.map_files.proofs.MapLength.{length_map_file}
 use Rattle.tempest_top.specs.declared.status.Status.{Status}
 use Rattle.tempest_top.specs.declared.status.Status.TheVariants.{NoFile}
 use Rattle.tempest_top.specs.Scene.{Scene}

@@ -12,11 +12,11 @@ use Rattle.overlap_run.specs.Whole.{IsOverlapOf}
 use Rattle.overlap_run.proofs.SoundWhole.{IsGridCorner, corners_on_grid}
 use Rattle.map_rows.specs.Maps.{MapParts, IsSoundMap}
 use Rattle.remap_files.specs.OverlapDocument.{overlap_document, IsCorner, HasCorners}
-use Rattle.remap_files.specs.MapDocument.{map_document}
+use Rattle.map_files.specs.MapDocument.{map_document}
 use Rattle.remap_files.proofs.OverlapLength.{overlap_document_form}
-use Rattle.remap_files.proofs.MapLength.{map_document_form}
+use Rattle.map_files.proofs.MapLength.{map_document_form}
 use Rattle.remap_files.proofs.OverlapAgain.{read_again}
-use Rattle.remap_files.proofs.MapAgain.{map_again}
+use Rattle.map_files.proofs.MapAgain.{map_again}
 use Rattle.remap_load.specs.Kinds.{HasContent}
 use Rattle.overlap_load.specs.OverlapFile.{overlap_kind}
 use Rattle.map_load.specs.MapFile.{map_kind}

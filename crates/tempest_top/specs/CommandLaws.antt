@@ -7,7 +7,7 @@ use Rattle.mesh_load.specs.MeshFile.{IsMeshFile}
 use Rattle.clip.specs.Overlaps.{OverlapParts}
 use Rattle.overlap_run.specs.Whole.{IsOverlapOf}
 use Rattle.offline_map.specs.Maps.{map_of}
-use Rattle.remap_files.specs.MapDocument.{map_document}
+use Rattle.map_files.specs.MapDocument.{map_document}
 use Rattle.map_load.specs.MapFile.{IsMapFile}
 use Rattle.map_rows.specs.Maps.{MapParts}
 use Rattle.map_rows.specs.Application.{source_mass_of, target_mass_of}

@@ -2,7 +2,7 @@
 use Rattle.std.specs.Prelude.{◌≡◌, ◌⊎◌, ℕ, List, ◌++◌, codes, decimal}
 use Rattle.map_rows.specs.Maps.{MapParts}
 use Rattle.exodus_mesh.specs.declared.ids.NameFault.{NameFault}
-use Rattle.remap_files.specs.declared.faults.FileFault.{FileFault}
+use Rattle.exodus_mesh.specs.declared.faults.FileFault.{FileFault}
 use Rattle.map_load.specs.MapFile.{map_kind}
 use Rattle.data_load.specs.declared.DataVar.{DataVar}
 use Rattle.data_load.specs.DataFile.{data_kind}

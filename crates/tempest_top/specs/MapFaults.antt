@@ -1,8 +1,8 @@
 -- The texts of faults of overlap files, and of overlaps that are none of two meshes. Source: our own.
 use Rattle.std.specs.Prelude.{◌≡◌, ◌≢◌, ℕ, List, [], ◌++◌, codes, decimal}
 use Rattle.clip.specs.Overlaps.{OverlapParts}
-use Rattle.remap_files.specs.declared.faults.FileFault.{FileFault}
-use Rattle.remap_files.specs.declared.faults.FileFault.TheVariants.{Name, Row, AreaA, AreaB, NoMemory}
+use Rattle.exodus_mesh.specs.declared.faults.FileFault.{FileFault}
+use Rattle.exodus_mesh.specs.declared.faults.FileFault.TheVariants.{Name, Row, AreaA, AreaB, NoMemory}
 use Rattle.overlap_load.specs.OverlapFile.{overlap_kind}
 use Rattle.offline_map.specs.declared.faults.MapFault.{MapFault}
 use Rattle.offline_map.specs.declared.faults.MapFault.TheVariants.{CountsA, CountsB, Row as WrongPiece, Uncovered as WithoutRow, NoMemory as NoMapMemory}

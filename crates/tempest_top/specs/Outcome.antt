@@ -17,7 +17,7 @@ use Rattle.clip.specs.Overlaps.{OverlapParts}
 use Rattle.overlap_run.specs.Pairs.{IsPairCount}
 use Rattle.overlap_run.specs.Whole.{IsOverlapOf}
 use Rattle.remap_files.specs.OverlapDocument.{overlap_document}
-use Rattle.remap_files.specs.MapDocument.{map_document}
+use Rattle.map_files.specs.MapDocument.{map_document}
 use Rattle.offline_map.specs.declared.faults.MapFault.{MapFault}
 use Rattle.offline_map.specs.Maps.{map_of}
 use Rattle.offline_map.specs.MapFaults.{IsMapFaultOf, IsMappable}

@@ -11,7 +11,7 @@ use crate::lines::put_line;
 use itoa::Buffer;
 use offline_map::MapFault;
 use overlap_load::OverlapRefusal;
-use remap_files::FileFault;
+use exodus_mesh::FileFault;
 use remap_io::Sink;
 use remap_load::FileRefusal;
 

@@ -1,4 +1,4 @@
-use Rattle.remap_files.proofs.FoundMap.{map_vars_ok}
+use Rattle.map_files.proofs.FoundMap.{map_vars_ok}
 use Rattle.map_load.proofs.loading.from_rows.Goals as goal
 
 pub map_from-requires-clause-source_faces : goal.map_from-requires-clause-source_faces

@@ -1,6 +1,6 @@
 use Rattle.std.proofs.Common.{◌∙◌, arith}
 use Rattle.exodus_mesh.specs.declared.kinds.NumberKind.TheVariants.{Int, Long}
-use Rattle.remap_files.proofs.FoundMap.{map_vars_ok}
+use Rattle.map_files.proofs.FoundMap.{map_vars_ok}
 use Rattle.map_load.specs.declared.values.MapNumbers.{MapNumbers}
 use Rattle.map_load.proofs.Loaded.{has_kind, count_of_head, first_reads, second_reads, third_reads, fourth_reads, all_reads, values_are}
 use Rattle.map_load.proofs.values.load_values.Goals as goal

@@ -2,8 +2,8 @@ use Rattle.std.proofs.Common.{◌≡◌, ◌∙◌, ap, sym, subst, map, length,
 use Rattle.std.specs.Prelude.{IfOk, IfErr}
 use Rattle.clip.specs.Overlaps.{OverlapParts}
 use Rattle.remap_files.specs.declared.vars.OverlapVars.{OverlapVars}
-use Rattle.remap_files.specs.declared.faults.FileFault.{FileFault}
-use Rattle.remap_files.specs.declared.faults.FileFault.TheVariants.{NoMemory}
+use Rattle.exodus_mesh.specs.declared.faults.FileFault.{FileFault}
+use Rattle.exodus_mesh.specs.declared.faults.FileFault.TheVariants.{NoMemory}
 use Rattle.nc_format.specs.Answers.{IsFaultOf}
 use Rattle.exodus_mesh.specs.Found.{IsSomeIntVar}
 use Rattle.remap_files.specs.OverlapRows.{overlap_of}

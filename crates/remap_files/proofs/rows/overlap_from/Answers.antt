@@ -1,4 +1,4 @@
-use Rattle.std.proofs.Common.{◌≡◌, ◌∙◌, [], None, Some, inr, rules, ap, sym, subst, map, List, Ok}
+use Rattle.std.proofs.Common.{◌≡◌, ◌∙◌, [], None, inr, rules, ap, sym, subst, map, List, Ok}
 use Rattle.std.specs.List.{range_with_len}
 use Rattle.clip.specs.declared.pieces.Piece.{Piece}
 use Rattle.clip.specs.Overlaps.{IsSoundOverlap}

@@ -1,0 +1,5 @@
+pub mod MapLength
+pub mod FoundMap
+mod MapFaults
+pub mod ReadMaps
+pub mod MapAgain

@@ -1,0 +1,4 @@
+pub mod MapDocument
+pub mod MapNames
+pub mod MapValues
+pub mod MapIn

@@ -1,6 +1,0 @@
-use Rattle.remap_files.specs.MapValues.{is_sum_of_some}
-use Rattle.remap_files.proofs.FirstNot.{AllGood}
-use Rattle.remap_files.proofs.map_values.first_other_target.Given as goal
-
-abbrev pub invariant-loop-k : goal.invariant-loop-k
-invariant-loop-k l = AllGood (is_sum_of_some l.areas l.sums) l.k
