@@ -4,3 +4,4 @@ pub mod Records
 pub mod Vsizes
 pub mod Places
 pub mod Standing
+pub mod Appending

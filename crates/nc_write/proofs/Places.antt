@@ -12,7 +12,7 @@ use Rattle.nc_write.specs.declared.DocVar.{DocVar}
 use Rattle.nc_write.specs.declared.NcKind.{NcKind}
 use Rattle.nc_write.specs.Kinds.{size_of, value}
 use Rattle.nc_write.specs.Extents.{lens_of, product_of, has_records, piece_count, piece_len, rounded, share_of}
-use Rattle.nc_write.specs.File.{numbers_of, kind_of, is_record, pads_records, doc_piece_len, fixed_len, record_len, first_len, fixed_total, doc_step, padded_bytes, padded_if, value_bytes, fixed_data, record_numbers, record_data, record_of, data_of, header, header_len, file_of}
+use Rattle.nc_write.specs.File.{numbers_of, kind_of, is_record, pads_records, fixed_len, record_len, first_len, fixed_total, doc_step, padded_bytes, padded_if, value_bytes, fixed_data, record_numbers, record_data, record_of, data_of, header, header_len, file_of}
 use Rattle.nc_write.specs.Form.{full_lens, IsWellFormed, HasItsValues}
 use Rattle.nc_write.proofs.PartLengths.{length_value, length_padded, length_header_any}
 use Rattle.nc_write.proofs.Records.{flat_range_more}

@@ -14,7 +14,7 @@ mod writing;
 pub use lists::{Bytes8, DimIds, DocAtts, DocDims, DocVars, Name};
 use std::alloc::AllocError;
 use vec_exact::{Ints, Longs};
-pub use writing::{encode, length_of};
+pub use writing::{encode, length_of, write_document};
 
 /// The types of netCDF values. The first six stand in versions 1, 2 and 5, the others in version 5
 /// alone (netCDF classic format specification; CDF-5).

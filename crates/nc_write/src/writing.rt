@@ -1,16 +1,18 @@
 // The file of a document.
 ghost use Rattle.std.specs.Prelude.{◌≡◌, ◌≤◌, ◌<◌, ◌+◌, ◌^◌, ◌++◌, length, IfOk, OnOk, IfErr};
+ghost use Rattle.std.specs.Io.KnownBytes.{Appends};
 ghost use Rattle.std.specs.List.{sum_by};
 ghost use Rattle.nc_write.specs.File.{file_of, header, header_len, version_of, fixed_total, first_len};
 ghost use Rattle.nc_write.specs.Form.{IsWellFormed, SaysLength};
 
-use crate::data::put_data;
+use crate::data::{PART, write_data};
 use crate::extents::plus;
 use crate::lengths::header_len;
 use crate::sizes::{data_len, version_of};
 use crate::spell::{put_attributes, put_dimensions, put_number, put_variables};
 use crate::{EncFault, NcDoc};
 use std::alloc::{AllocError, Global};
+use std::io::{self, Write};
 
 const MAX_FILE: u64 = 2_147_483_647;
 
@@ -35,9 +37,35 @@ fn put_header(out: &mut Vec<u8>, version: u8, doc: &NcDoc, begin: u64) -> Result
     put_variables(out, version, doc, begin)
 }
 
-/// The one file of a document: in version 5 where a variable is Long, else in version 2.
-/// `TooLarge` says the length of a file of more than 2,147,483,647 bytes.
-#[tactic(auto, unfolding(crate::specs::File::file_of))]
+// Writes the header of a document.
+fn write_header<W: Write>(out: &mut W, room: &mut Vec<u8>, doc: &NcDoc) -> io::Result<()>
+    requires { IsWellFormed doc.now }
+    ensures { OnOk result (Appends (W.contents out.old) (W.contents out.new)
+        (header doc.now (header_len doc.now))) }
+{
+    let version = version_of(doc);
+    room.clear();
+    put_header(room, version, doc, header_len(version, doc))?;
+    out.write_all(room)?;
+    Ok(())
+}
+
+/// Writes the one file of a document: in version 5 where a variable is Long, else in version 2. Its
+/// values are spelled part by part, so that beside the document one part stands in memory. After an
+/// error some prefix of the file may have been written.
+pub fn write_document<W: Write>(alloc: Global, doc: &NcDoc, out: &mut W) -> io::Result<()>
+    requires { IsWellFormed doc.now }
+    ensures { OnOk result (Appends (W.contents out.old) (W.contents out.new)
+        (file_of doc.now)) }
+{
+    let mut room = Vec::with_capacity(alloc, PART)?;
+    write_header(out, &mut room, doc)?;
+    write_data(out, &mut room, doc)?;
+    Ok(())
+}
+
+/// The one file of a document, as bytes. `TooLarge` says the length of a file of more than
+/// 2,147,483,647 bytes.
 pub fn encode(alloc: Global, doc: &NcDoc) -> Result<Vec<u8>, EncFault>
     requires { IsWellFormed doc.now }
     ensures bytes { IfOk result (λ bytes. bytes.items ≡ file_of doc.now) }
@@ -48,9 +76,9 @@ pub fn encode(alloc: Global, doc: &NcDoc) -> Result<Vec<u8>, EncFault>
     if len > MAX_FILE {
         return Err(EncFault::TooLarge(len));
     }
-    let version = version_of(doc);
     let mut out = Vec::with_capacity(alloc, len as usize)?;
-    put_header(&mut out, version, doc, header_len(version, doc))?;
-    put_data(&mut out, doc)?;
-    Ok(out)
+    match write_document(alloc, doc, &mut out) {
+        Ok(()) => Ok(out),
+        Err(_) => Err(EncFault::NoMemory),
+    }
 }

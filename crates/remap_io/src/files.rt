@@ -4,6 +4,9 @@ ghost use Rattle.remap_io.specs.Causes.{held_sum};
 ghost use Rattle.remap_io.specs.Folder.{file_at, with_file, OnFile, IsPartlyReplaced};
 ghost use Rattle.remap_io.specs.Outside.{FilesSeen, OnlyReads, NoCountFalls, IsReadRefusal, IsWriteRefusal};
 
+use crate::content::Content;
+use std::alloc::Global;
+
 /// Why the length or the bytes of a file weren't had.
 #[derive(Clone, Copy, Debug, PartialEq, Eq)]
 pub enum FileErr {
@@ -62,4 +65,28 @@ pub trait Files {
         ensures refusal { IfErr result (IsWriteRefusal (seen self.old) (seen self.new)) }
         ensures counts { NoCountFalls (seen self.old) (seen self.new) }
         ensures same_taken { (seen self.new).taken ≡ (seen self.old).taken };
+
+    /// The same with the bytes of a content, which need not stand in memory whole: files that can
+    /// take them part by part override it. As it is given here it is one call of `replace`.
+    fn replace_with<C: Content>(
+        &mut self,
+        alloc: Global,
+        name: &str,
+        content: &C,
+    ) -> Result<(), PutErr>
+        requires { C.can_write content.now }
+        ensures ok { OnOk result ((seen self.new).folder ≡
+            option_map (λ m. with_file m name.now (C.bytes content.now)) (seen self.old).folder) }
+        ensures err { OnErr result (IsPartlyReplaced
+            (seen self.old).folder name.now (C.bytes content.now) (seen self.new).folder) }
+        ensures refusal { IfErr result (IsWriteRefusal (seen self.old) (seen self.new)) }
+        ensures counts { NoCountFalls (seen self.old) (seen self.new) }
+        ensures same_taken { (seen self.new).taken ≡ (seen self.old).taken }
+    {
+        let mut bytes = Vec::new(alloc);
+        match content.write_to(&mut bytes) {
+            Ok(()) => self.replace(name, &bytes),
+            Err(_) => Err(PutErr::NoMemory),
+        }
+    }
 }

@@ -5,17 +5,19 @@ ghost use Rattle.remap_io.specs.Causes.{held_sum};
 ghost use Rattle.remap_io.specs.Host.{with_asked, seen_of_host, seen_of_writer};
 ghost use Rattle.remap_io.specs.Outside.{NoCountFalls, NoPutCountFalls};
 
+use crate::content::{Content, InMemory};
 use crate::files::{FileErr, Files, PutErr};
 use crate::replacing::replace_file;
 use crate::sink::Sink;
+use std::alloc::Global;
 use std::io::{ErrorKind, Read, Seek, SeekFrom, Write};
 use std::marker::Model;
 use std::{fs, io};
 
 /// The files of a runtime. One count rises at each name that isn't found, one at each other error
-/// of `size` or `read_at`, a short read included, and one at each error of `replace`. A regular
-/// file, or a name that is free, is replaced whole or stays as it was; anything else is written in
-/// place.
+/// of `size` or `read_at`, a short read included, and one at each error of `replace`, and of
+/// `replace_with` unless memory ran out. A regular file, or a name that is free, is replaced whole or
+/// stays as it was; anything else is written in place.
 #[derive(Drop)]
 pub struct HostFiles<R: std::rt::Files> {
     rt: R,
@@ -69,6 +71,17 @@ impl<R: std::rt::Files> HostFiles<R> {
             FileErr::Failed
         }
     }
+
+    // Counts a failed replacement.
+    fn failed_to_write(&mut self) -> PutErr
+        ensures failed { result ≡ PutErr.Failed }
+        ensures counted { self.new ≡
+            record self.old { write_faults = held_sum self.old.write_faults 1 } }
+        ensures counts { NoCountFalls (seen_of_host self.old) (seen_of_host self.new) }
+    {
+        self.write_faults = self.write_faults.saturating_add(1);
+        PutErr::Failed
+    }
 }
 
 // Fills the buffer with the bytes of the file from the offset on.
@@ -121,12 +134,29 @@ impl<R: std::rt::Files> Files for HostFiles<R> {
         ensures only_failed { IsOkUnless result PutErr.Failed }
         ensures counts { NoCountFalls (seen_of_host self.old) (seen_of_host self.new) }
     {
-        match replace_file(&self.rt, name, bytes) {
+        match replace_file(&self.rt, None, name, &InMemory { bytes }) {
             Ok(()) => Ok(()),
-            Err(_) => {
-                self.write_faults = self.write_faults.saturating_add(1);
-                Err(PutErr::Failed)
-            }
+            Err(_) => Err(self.failed_to_write()),
+        }
+    }
+
+    fn replace_with<C: Content>(
+        &mut self,
+        alloc: Global,
+        name: &str,
+        content: &C,
+    ) -> Result<(), PutErr>
+        requires { C.can_write content.now }
+        ensures ok { OnOk result (self.new ≡ self.old) }
+        ensures failed { IsErrOf result PutErr.Failed → self.new ≡
+            record self.old { write_faults = held_sum self.old.write_faults 1 } }
+        ensures no_memory { IsErrOf result PutErr.NoMemory → self.new ≡ self.old }
+        ensures counts { NoCountFalls (seen_of_host self.old) (seen_of_host self.new) }
+    {
+        match replace_file(&self.rt, Some(alloc), name, content) {
+            Ok(()) => Ok(()),
+            Err(error) if error.kind() == ErrorKind::OutOfMemory => Err(PutErr::NoMemory),
+            Err(_) => Err(self.failed_to_write()),
         }
     }
 }

@@ -1,6 +1,7 @@
 //! The outside: files by name, and sinks, with counts of what failed.
 #![tactic(auto)]
 
+mod content;
 mod files;
 mod host;
 mod mem_files;
@@ -11,6 +12,7 @@ mod sink;
 mod steady;
 mod store;
 
+pub use content::Content;
 pub use files::{FileErr, Files, PutErr};
 pub use host::{HostFiles, HostSink};
 pub use mem_files::{MemFiles, Torn};

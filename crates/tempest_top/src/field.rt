@@ -25,9 +25,10 @@ use data_load::{DataRefusal, DataVar, load_data};
 use field_files::{FieldVar, fit_field};
 use map_load::{MapRefusal, load_map};
 use map_rows::Map;
-use nc_write::{EncFault, NcDoc, encode};
+use nc_write::{NcDoc, length_of};
 use remap_io::{Files, Sink};
 use std::alloc::Global;
+use vec_exact::MAX_FILE_LEN;
 
 // The map of an input file.
 fn map_of<F: Files>(alloc: Global, files: &mut F, file: &Text) -> Result<Map, MapRefusal>
@@ -78,8 +79,7 @@ fn refuse_data_of<E: Sink>(err: &mut E, file: &Text, var: &Text, why: DataRefusa
     refuse_data_file(err, file.text.as_str(), var.text.as_str(), why)
 }
 
-// Writes the document of a field to `file`, unless that would be too long, and puts its text. The
-// document is let go when the bytes stand.
+// Writes the document of a field to `file`, unless that would be too long, and puts its text.
 fn write_document<F: Files, O: Sink, E: Sink>(
     alloc: Global,
     doc: NcDoc,
@@ -96,13 +96,19 @@ fn write_document<F: Files, O: Sink, E: Sink>(
         (scene (F.seen files.new) (O.seen out.new) (E.seen err.new)) result }
     ensures no_line { result ≡ Status.Done → err.new ≡ err.old }
 {
-    let bytes = match encode(alloc, &doc) {
-        Ok(bytes) => bytes,
-        Err(EncFault::TooLarge(length)) => return refuse_length(err, file.text.as_str(), length),
-        Err(EncFault::NoMemory) => return refuse_memory(err),
-    };
-    drop(doc);
-    write_then_text(files, out, err, file.text.as_str(), &bytes, text.as_bytes())
+    let length = length_of(&doc);
+    if length > MAX_FILE_LEN {
+        return refuse_length(err, file.text.as_str(), length);
+    }
+    write_then_text(
+        alloc,
+        files,
+        out,
+        err,
+        file.text.as_str(),
+        &doc,
+        text.as_bytes(),
+    )
 }
 
 // Writes the field that a map makes of a variable none of whose values is the fill value.

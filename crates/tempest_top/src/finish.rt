@@ -1,14 +1,19 @@
 // How a command ends.
 ghost use Rattle.std.specs.Prelude.{◌≡◌, codes};
 ghost use Rattle.remap_io.specs.Outside.{FilesSeen};
+ghost use Rattle.nc_write.specs.File.{file_of};
+ghost use Rattle.nc_write.specs.Form.{IsWellFormed};
 ghost use Rattle.tempest_top.specs.Scene.{scene};
 ghost use Rattle.tempest_top.specs.Lines.{PutsText};
 ghost use Rattle.tempest_top.specs.Outcome.{text_alone, written};
 ghost use Rattle.tempest_top.specs.Ends.{Ends};
 
 use crate::Status;
+use crate::document::DocumentFile;
 use crate::lines::put_line;
+use nc_write::NcDoc;
 use remap_io::{Files, PutErr, Sink};
+use std::alloc::Global;
 
 /// Puts the text, which is all that a command without an output file leaves. No file is touched.
 pub fn put_text_alone<O: Sink, E: Sink>(out: &mut O, err: &mut E, text: &[u8]) -> Status
@@ -30,23 +35,26 @@ pub fn put_text_alone<O: Sink, E: Sink>(out: &mut O, err: &mut E, text: &[u8]) -
     }
 }
 
-/// Writes the output file, and then puts the text. All that takes memory was made before.
+/// Writes the file of a document, and then puts the text. The document is spelled while it is
+/// written.
 pub fn write_then_text<F: Files, O: Sink, E: Sink>(
+    alloc: Global,
     files: &mut F,
     out: &mut O,
     err: &mut E,
     name: &str,
-    bytes: &[u8],
+    doc: &NcDoc,
     text: &[u8],
 ) -> Status
-    ensures ends { Ends (written (record { name = name.now; bytes = bytes.now }) text.now
+    requires { IsWellFormed doc.now }
+    ensures ends { Ends (written (record { name = name.now; bytes = file_of doc.now }) text.now
         (F.seen files.old).folder)
         (scene (F.seen files.old) (O.seen out.old) (E.seen err.old))
         (scene (F.seen files.new) (O.seen out.new) (E.seen err.new)) result }
     ensures no_line { result ≡ Status.Done → err.new ≡ err.old }
     ensures no_reads { (F.seen files.new).taken ≡ (F.seen files.old).taken }
 {
-    match files.replace(name, bytes) {
+    match files.replace_with(alloc, name, &DocumentFile { alloc, doc }) {
         Ok(()) => put_text_alone(out, err, text),
         Err(PutErr::Failed) => {
             put_line(err, &["write fault on ", name]);

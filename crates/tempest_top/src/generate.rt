@@ -1,7 +1,6 @@
 // The commands that make a mesh.
 ghost use Rattle.std.specs.Prelude.{◌≡◌, ◌≤◌, All, IfOk, Some, length, string_bytes};
 ghost use Rattle.vec_exact.specs.Counts.{AreAllowedCounts};
-ghost use Rattle.nc_write.specs.File.{file_of};
 ghost use Rattle.nc_write.specs.Form.{IsWellFormed};
 ghost use Rattle.mesh_check.specs.Mesh.{IsAcceptedMesh};
 ghost use Rattle.mesh_check.specs.FirstFault.{HasFaceSize};
@@ -20,37 +19,35 @@ use crate::finish::{refuse_memory, write_then_text};
 use command_line::Text;
 use exodus_mesh::mesh_doc;
 use mesh_check::Mesh;
-use nc_write::{EncFault, NcDoc, encode};
+use nc_write::NcDoc;
 use remap_io::{Files, Sink};
 use std::alloc::Global;
 use vec_exact::{NoMemory, RawMesh};
 
-// The bytes of the file of a mesh, and the text that tells its size.
-#[tactic(auto, using(crate::proofs::AcceptedMesh::none_empty, crate::proofs::AcceptedMesh::narrow, crate::proofs::AcceptedMesh::short_mesh_file))]
-fn mesh_file(alloc: Global, raw: &RawMesh) -> Result<(Vec<u8>, String), NoMemory>
+// The document of a mesh, and the text that tells its size.
+#[tactic(auto, using(crate::proofs::AcceptedMesh::none_empty, crate::proofs::AcceptedMesh::narrow))]
+fn mesh_file(alloc: Global, raw: &RawMesh) -> Result<(NcDoc, String), NoMemory>
     requires nodes { 1 ≤ length raw.now.nodes }
     requires faces { 1 ≤ length raw.now.faces }
     requires counts { AreAllowedCounts (length raw.now.nodes) (length raw.now.faces) }
     requires sizes { All HasFaceSize raw.now.faces }
-    ensures bytes { IfOk result (λ p. p.0.items ≡ file_of (mesh_document raw.now)) }
+    ensures document { IfOk result (λ p. p.0 ≡ mesh_document raw.now) }
+    ensures well_formed { IfOk result (λ p. IsWellFormed p.0) }
     ensures text { IfOk result (λ p. string_bytes p.1 ≡ mesh_text raw.now) }
 {
     let faces = raw.faces.items.len();
     let nodes = raw.nodes.items.len();
     let text = format!(in alloc; "faces {faces} nodes {nodes}\n")?;
     let doc = mesh_doc(alloc, raw)?;
-    match encode(alloc, &doc) {
-        Ok(bytes) => Ok((bytes, text)),
-        Err(EncFault::NoMemory) => Err(NoMemory),
-        Err(EncFault::TooLarge(_)) => unreachable!(),
-    }
+    Ok((doc, text))
 }
 
 // The same of the cubed sphere. The mesh itself is let go here.
-fn sphere_file(alloc: Global, n: u32) -> Result<(Vec<u8>, String), NoMemory>
+fn sphere_file(alloc: Global, n: u32) -> Result<(NcDoc, String), NoMemory>
     requires least { 1 ≤ n }
     requires greatest { n ≤ 400 }
-    ensures bytes { IfOk result (λ p. p.0.items ≡ file_of (mesh_document (cubed_sphere n))) }
+    ensures document { IfOk result (λ p. p.0 ≡ mesh_document (cubed_sphere n)) }
+    ensures well_formed { IfOk result (λ p. IsWellFormed p.0) }
     ensures text { IfOk result (λ p. string_bytes p.1 ≡ mesh_text (cubed_sphere n)) }
 {
     let raw = gen_cs::make(alloc, n)?;
@@ -59,9 +56,10 @@ fn sphere_file(alloc: Global, n: u32) -> Result<(Vec<u8>, String), NoMemory>
 
 // The same of an accepted mesh.
 #[tactic(auto, using(crate::proofs::AcceptedMesh::some_node, crate::proofs::AcceptedMesh::face_sizes))]
-fn accepted_file(alloc: Global, mesh: &Mesh) -> Result<(Vec<u8>, String), NoMemory>
+fn accepted_file(alloc: Global, mesh: &Mesh) -> Result<(NcDoc, String), NoMemory>
     requires { IsAcceptedMesh mesh.now }
-    ensures bytes { IfOk result (λ p. p.0.items ≡ file_of (mesh_document mesh.now)) }
+    ensures document { IfOk result (λ p. p.0 ≡ mesh_document mesh.now) }
+    ensures well_formed { IfOk result (λ p. IsWellFormed p.0) }
     ensures text { IfOk result (λ p. string_bytes p.1 ≡ mesh_text mesh.now) }
 {
     let raw = mesh_check::raw(alloc, mesh)?;
@@ -85,10 +83,18 @@ fn write_mesh<F: Files, O: Sink, E: Sink>(
     ensures no_line { result ≡ Status.Done → err.new ≡ err.old }
     ensures no_reads { (F.seen files.new).taken ≡ (F.seen files.old).taken }
 {
-    let Ok((bytes, text)) = accepted_file(alloc, mesh) else {
+    let Ok((doc, text)) = accepted_file(alloc, mesh) else {
         return refuse_memory(err);
     };
-    write_then_text(files, out, err, file.text.as_str(), &bytes, text.as_bytes())
+    write_then_text(
+        alloc,
+        files,
+        out,
+        err,
+        file.text.as_str(),
+        &doc,
+        text.as_bytes(),
+    )
 }
 
 // The same of the cubed sphere.
@@ -109,10 +115,18 @@ fn write_sphere<F: Files, O: Sink, E: Sink>(
     ensures no_line { result ≡ Status.Done → err.new ≡ err.old }
     ensures no_reads { (F.seen files.new).taken ≡ (F.seen files.old).taken }
 {
-    let Ok((bytes, text)) = sphere_file(alloc, res) else {
+    let Ok((doc, text)) = sphere_file(alloc, res) else {
         return refuse_memory(err);
     };
-    write_then_text(files, out, err, file.text.as_str(), &bytes, text.as_bytes())
+    write_then_text(
+        alloc,
+        files,
+        out,
+        err,
+        file.text.as_str(),
+        &doc,
+        text.as_bytes(),
+    )
 }
 
 /// `GenerateCSMesh`: writes the cubed sphere of resolution `res` to `file`, and puts its size.

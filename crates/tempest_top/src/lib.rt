@@ -2,6 +2,7 @@
 #![tactic(auto)]
 
 mod cover;
+mod document;
 mod faults;
 mod field;
 mod field_docs;

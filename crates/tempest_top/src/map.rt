@@ -9,6 +9,7 @@ ghost use Rattle.tempest_top.specs.MapReading.{IsMaking, IsWhole, IsPut, IsMapOf
 ghost use Rattle.vec_exact.specs.declared.limits.TheConstants.{MAX_FILE_LEN};
 ghost use Rattle.remap_io.specs.Outside.{OnlyReads};
 ghost use Rattle.nc_write.specs.File.{file_of};
+ghost use Rattle.nc_write.specs.Form.{IsWellFormed};
 ghost use Rattle.remap_load.specs.Kinds.{file_cost};
 ghost use Rattle.map_files.specs.MapDocument.{map_document};
 ghost use Rattle.command_line.specs.declared.choices.Chosen.TheVariants.{OfflineMap as OfflineMapOf};
@@ -26,7 +27,7 @@ use crate::map_faults::{refuse_map, refuse_overlap_file};
 use command_line::Text;
 use map_rows::Map;
 use mesh_check::Mesh;
-use nc_write::{EncFault, encode};
+use nc_write::NcDoc;
 use offline_map::{MapFault, MapMaker};
 use overlap_load::{OverlapReader, OverlapRefusal, open_overlap};
 use map_files::map_doc;
@@ -188,29 +189,17 @@ fn counts_of(alloc: Global, map: &Map) -> Result<String, NoMemory>
     Ok(text)
 }
 
-// The bytes of the file of a map. It has at most 150,995,360 of them, so that none is too long.
-fn map_bytes(alloc: Global, map: Map) -> Result<Vec<u8>, NoMemory>
-    ensures bytes { IfOk result (λ bytes. bytes.items ≡ file_of (map_document map)) }
-    ensures short { OnOk result (length (file_of (map_document map)) ≤ MAX_FILE_LEN) }
-{
-    let doc = map_doc(alloc, &map)?;
-    drop(map);
-    match encode(alloc, &doc) {
-        Ok(bytes) => Ok(bytes),
-        Err(EncFault::NoMemory) => Err(NoMemory),
-        Err(EncFault::TooLarge(_)) => unreachable!(),
-    }
-}
-
-// The bytes of the file of a map, and its text.
-fn map_file(alloc: Global, map: Map) -> Result<(Vec<u8>, String), NoMemory>
-    ensures bytes { IfOk result (λ p. p.0.items ≡ file_of (map_document map)) }
+// The document of a map, and its text. Its file has at most 150,995,360 bytes, so that none is too
+// long. The map is let go here.
+fn map_file(alloc: Global, map: Map) -> Result<(NcDoc, String), NoMemory>
+    ensures document { IfOk result (λ p. p.0 ≡ map_document map) }
+    ensures well_formed { IfOk result (λ p. IsWellFormed p.0) }
     ensures short { OnOk result (length (file_of (map_document map)) ≤ MAX_FILE_LEN) }
     ensures text { IfOk result (λ p. string_bytes p.1 ≡ map_text map) }
 {
     let text = counts_of(alloc, &map)?;
-    let bytes = map_bytes(alloc, map)?;
-    Ok((bytes, text))
+    let doc = map_doc(alloc, &map)?;
+    Ok((doc, text))
 }
 
 // Writes the map of an overlap to `file`.
@@ -230,10 +219,18 @@ fn write_map<F: Files, O: Sink, E: Sink>(
         (scene (F.seen files.new) (O.seen out.new) (E.seen err.new)) result }
     ensures no_line { result ≡ Status.Done → err.new ≡ err.old }
 {
-    let Ok((bytes, text)) = map_file(alloc, map) else {
+    let Ok((doc, text)) = map_file(alloc, map) else {
         return refuse_memory(err);
     };
-    write_then_text(files, out, err, file.text.as_str(), &bytes, text.as_bytes())
+    write_then_text(
+        alloc,
+        files,
+        out,
+        err,
+        file.text.as_str(),
+        &doc,
+        text.as_bytes(),
+    )
 }
 
 /// `GenerateOfflineMap`: writes to `file` the map of the overlap in `ov_mesh`, which is one of the

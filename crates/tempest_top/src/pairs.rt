@@ -1,9 +1,8 @@
 // The command that finds the pieces of two meshes.
 ghost use Rattle.std.specs.Prelude.{◌≡◌, ◌≤◌, ◌<◌, ◌+◌, [], IfOk, IfErr, IfSome, OnOk, Some, length, string_bytes};
-ghost use Rattle.vec_exact.specs.declared.limits.TheConstants.{MAX_FILE_LEN};
 ghost use Rattle.remap_io.specs.Folder.{OnFile};
 ghost use Rattle.remap_io.specs.Outside.{OnlyReads};
-ghost use Rattle.nc_write.specs.File.{file_of};
+ghost use Rattle.nc_write.specs.Form.{IsWellFormed};
 ghost use Rattle.clip.specs.Overlaps.{OverlapParts};
 ghost use Rattle.clip.specs.Columns.{AreColumnsOf};
 ghost use Rattle.overlap_run.specs.Whole.{HoldsOverlap, IsRefusalOf};
@@ -25,7 +24,7 @@ use crate::inputs::{mesh_of, refuse_mesh};
 use clip::Columns;
 use command_line::Text;
 use mesh_check::{Mesh, face_count};
-use nc_write::{EncFault, encode};
+use nc_write::NcDoc;
 use overlap_run::{OpenGate, RunFault, overlap_list};
 use remap_files::{columns_doc, columns_length};
 use remap_io::{Files, Sink};
@@ -72,28 +71,24 @@ fn meet<R: Threads>(
     counted::<R, Brand>(rt, alloc, a, b, workers, Blank::new(1))
 }
 
-// The bytes of the file of an overlap, and the text that tells how many pieces it has.
+// The document of an overlap, and the text that tells how many pieces it has.
 fn overlap_file(
     alloc: Global,
     faces_a: u32,
     faces_b: u32,
     columns: Columns,
-) -> Result<(Vec<u8>, String), NoMemory>
-    requires held { (o : OverlapParts) × IsInColumns o faces_a faces_b columns
-        × (length (file_of (overlap_document o)) ≤ MAX_FILE_LEN) }
-    ensures bytes { (o : OverlapParts) → IsInColumns o faces_a faces_b columns
-        → IfOk result (λ p. p.0.items ≡ file_of (overlap_document o)) }
+) -> Result<(NcDoc, String), NoMemory>
+    requires held { (o : OverlapParts) × IsInColumns o faces_a faces_b columns }
+    ensures document { (o : OverlapParts) → IsInColumns o faces_a faces_b columns
+        → IfOk result (λ p. p.0 ≡ overlap_document o) }
+    ensures well_formed { IfOk result (λ p. IsWellFormed p.0) }
     ensures text { (o : OverlapParts) → IsInColumns o faces_a faces_b columns
         → IfOk result (λ p. string_bytes p.1 ≡ pieces_text (length o.pieces)) }
 {
     let pieces = columns.sources.len();
     let text = format!(in alloc; "pieces {pieces}\n")?;
     let doc = columns_doc(alloc, faces_a, faces_b, columns)?;
-    match encode(alloc, &doc) {
-        Ok(bytes) => Ok((bytes, text)),
-        Err(EncFault::NoMemory) => Err(NoMemory),
-        Err(EncFault::TooLarge(_)) => unreachable!(),
-    }
+    Ok((doc, text))
 }
 
 // Writes an overlap to `file`, and puts how many pieces it has. A file that would be too long is
@@ -120,10 +115,18 @@ fn write_overlap<F: Files, O: Sink, E: Sink>(
     if length > MAX_FILE_LEN {
         return refuse_length(err, file.text.as_str(), length);
     }
-    let Ok((bytes, text)) = overlap_file(alloc, faces_a, faces_b, columns) else {
+    let Ok((doc, text)) = overlap_file(alloc, faces_a, faces_b, columns) else {
         return refuse_memory(err);
     };
-    write_then_text(files, out, err, file.text.as_str(), &bytes, text.as_bytes())
+    write_then_text(
+        alloc,
+        files,
+        out,
+        err,
+        file.text.as_str(),
+        &doc,
+        text.as_bytes(),
+    )
 }
 
 // Writes the overlap of two meshes, which are let go when it is found.

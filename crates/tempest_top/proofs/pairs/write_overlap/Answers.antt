@@ -1,4 +1,4 @@
-use Rattle.std.proofs.Common.{rules, ◌≡◌, ◌≤◌, ◌∙◌, ℕ, List, length, refl, subst, arith}
+use Rattle.std.proofs.Common.{rules, ◌≡◌, ◌≤◌, ◌∙◌, ℕ, List, length, refl, ap, subst, arith}
 use Rattle.nc_write.specs.File.{file_of}
 use Rattle.remap_files.specs.OverlapDocument.{overlap_document}
 use Rattle.tempest_top.specs.Outcome.{written}
@@ -29,5 +29,5 @@ returns-clause-comes g c = λ o h.
     let after = scene (g.F.Files.seen c.write_then_text.new.files) (g.O.Sink.seen c.write_then_text.new.out) (g.E.Sink.seen c.write_then_text.new.err) in
     let name : c.as_str-2.result.now ≡ c.args.file.now = search rules in
     let short : length (file_of doc) ≤ 2147483647 = omega (arith, c.columns_length-length.ensures o h, c.if-length-gt-MAX_FILE_LEN.false) in
-    let ends = subst (λ (file : List ℕ). Ends (written (record { name = file; bytes = c.deref.result.now }) c.as_bytes.result.now before.files.folder) before after c.write_then_text.result) name c.write_then_text.ensures.ends in
-    comes_written doc _ c.args.file.now before after c.deref.result.now c.as_bytes.result.now _ short (c.deref.ensures.value ∙ c.in-Ok.ensures.bytes o h) (c.as_bytes.ensures.value ∙ c.in-Ok.ensures.text o h) c.write_then_text.ensures.no_reads ends
+    let ends = subst (λ (file : List ℕ). Ends (written (record { name = file; bytes = file_of c.in-Ok.doc }) c.as_bytes.result.now before.files.folder) before after c.write_then_text.result) name c.write_then_text.ensures.ends in
+    comes_written doc _ c.args.file.now before after (file_of c.in-Ok.doc) c.as_bytes.result.now _ short (ap file_of (c.in-Ok.ensures.document o h)) (c.as_bytes.ensures.value ∙ c.in-Ok.ensures.text o h) c.write_then_text.ensures.no_reads ends

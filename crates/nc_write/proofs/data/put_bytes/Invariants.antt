@@ -1,7 +1,0 @@
-use Rattle.std.proofs.Common.{◌≡◌, ◌++◌, take}
-use Rattle.nc_write.specs.declared.NcKind.TheVariants as kinds
-use Rattle.nc_write.specs.File.{value_bytes}
-use Rattle.nc_write.proofs.data.put_bytes.Given as goal
-
-abbrev pub invariant-loop-number : goal.invariant-loop-number
-invariant-loop-number l = l.out.items ≡ l.fn.out.items ++ value_bytes kinds.Byte (take l.number-index l.numbers)
