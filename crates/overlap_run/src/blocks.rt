@@ -9,7 +9,7 @@ ghost use Rattle.overlap_run.specs.Parts.{IsBlockOf, IsNumberedBlock, AreFirstBl
 use crate::Gate;
 use crate::faces::clip_face;
 use cell_index::{Index, find_candidates};
-use clip::{PieceList, Pieces, Place};
+use clip::{Outline, PieceList, Pieces, Place};
 use mesh_check::{Mesh, face_count};
 use std::alloc::Global;
 use std::sync::ledger::Ledger;
@@ -58,9 +58,21 @@ fn extend_block<C: PieceList, L: Ledger>(
     let _source_faces = face_count(a);
     let _target_faces = face_count(b);
     let mut targets = Vec::new(alloc);
+    let mut source = Outline::new();
+    let mut target = Outline::new();
     for i in from..to + 1 {
         find_candidates(index, a, i, &mut targets)?;
-        clip_face(alloc, a, i, b, &targets, block, steps)?;
+        clip_face(
+            alloc,
+            a,
+            i,
+            b,
+            &targets,
+            &mut source,
+            &mut target,
+            block,
+            steps,
+        )?;
     }
     Ok(())
 }

@@ -11,7 +11,7 @@ ghost use Rattle.overlap_run.specs.Parts.{AddsPiece, TakesPair, IsBlockOf, DoMee
 use crate::Block;
 use crate::blocks::GREATEST_COUNT;
 use crate::rings::piece_of_ring;
-use clip::{Outline, PieceList, Ring, clip_next, outline_of};
+use clip::{Outline, PieceList, Ring, clip_next, read_outline};
 use mesh_check::Mesh;
 use std::alloc::Global;
 use std::sync::ledger::Ledger;
@@ -81,17 +81,20 @@ fn clip_pair<C: PieceList, L: Ledger>(
 }
 
 // Clips face i of `a` with each of the targets, which are face numbers of `b` in ascending order.
-// All faces of `b` that meet face i are among them.
+// All faces of `b` that meet face i are among them. `source` and `target` are room for two faces: they
+// are used again, since to make them costs more than to read a face.
 pub fn clip_face<C: PieceList, L: Ledger>(
     alloc: Global,
     a: &Mesh,
     i: u32,
     b: &Mesh,
     targets: &[u32],
+    source: &mut Outline,
+    target: &mut Outline,
     block: &mut Block<C>,
     steps: &mut Steps<L>,
 ) -> Result<(), NoMemory>
-    requires source { IsFaceNumber a.now i }
+    requires face { IsFaceNumber a.now i }
     requires targets { All (IsFaceNumber b.now) targets.now }
     requires ascending { IsStrictlyIncreasing targets.now }
     requires all { (j : ℕ) → IsFaceNumber b.now j → Meets (corners_of a.now i) (corners_of b.now j)
@@ -105,10 +108,9 @@ pub fn clip_face<C: PieceList, L: Ledger>(
     ensures ticks { OnOk result (steps.new ≡ steps.old + length targets.now) }
     ensures most { steps.new ≤ steps.old + length targets.now }
 {
-    let f = outline_of(a, i);
-    let mut g = Outline::new();
+    read_outline(a, i, source);
     for j in targets {
-        clip_pair(alloc, a, i, &f, b, *j, &mut g, block, steps)?;
+        clip_pair(alloc, a, i, source, b, *j, target, block, steps)?;
     }
     Ok(())
 }
