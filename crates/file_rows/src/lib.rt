@@ -8,6 +8,8 @@
 #[cfg(test)]
 mod compared;
 #[cfg(test)]
+mod contents;
+#[cfg(test)]
 mod documents;
 #[cfg(test)]
 mod fields;
