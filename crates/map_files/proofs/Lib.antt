@@ -3,3 +3,4 @@ pub mod FoundMap
 mod MapFaults
 pub mod ReadMaps
 pub mod MapAgain
+mod Numbers

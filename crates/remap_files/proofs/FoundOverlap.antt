@@ -4,14 +4,13 @@ use Rattle.std.proofs.lemmas.List.Elements.{All-from_recursion}
 use Rattle.clip.specs.Overlaps.{IsFaceCount}
 use Rattle.nc_format.specs.declared.NcFile.{NcFile}
 use Rattle.nc_format.specs.Header.{IsHeader}
-use Rattle.exodus_mesh.specs.declared.kinds.NumberKind.{NumberKind}
 use Rattle.exodus_mesh.specs.declared.kinds.NumberKind.TheVariants.{Int}
 use Rattle.exodus_mesh.specs.declared.ids.NameId.{NameId}
 use Rattle.exodus_mesh.specs.declared.ids.NameId.TheVariants.{FacesA, FacesB, Pieces, Source, Target, RingSize, RingPlane, Corner}
 use Rattle.exodus_mesh.specs.declared.ids.NameFault.{NameFault}
 use Rattle.exodus_mesh.specs.declared.ids.NameFault.TheVariants.{Missing, Shape}
 use Rattle.exodus_mesh.specs.Names.{◌>>=◌, found_or}
-use Rattle.exodus_mesh.specs.VarLens.{same_len, var_len, var_lens, IsNumberVar}
+use Rattle.exodus_mesh.specs.VarLens.{same_len, var_len, var_lens}
 use Rattle.exodus_mesh.specs.MeshNames.{place_of}
 use Rattle.exodus_mesh.specs.Found.{IsIntVar, IsSomeIntVar}
 use Rattle.exodus_mesh.proofs.NumberVars.{value_ok, ok_same, if_ok, var_len_ok, var_lens_ok, same_ok}

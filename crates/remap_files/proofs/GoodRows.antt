@@ -1,9 +1,7 @@
 -- What holds of rows that are at no fault, and of the overlap that they make.
-use Rattle.std.proofs.Common.{◌≡◌, ◌<◌, ◌≤◌, ◌+◌, ◌-◌, ◌*◌, ◌⊎◌, inl, inr, ◌==◌, ℕ, zero, suc, ℤ, pos, negsuc, Bool, true, false, ◌&&◌, ◌||◌, int_lt, List, [], ◌∷◌, length, map, drop, All, refl, ap, sym, subst, ◌∙◌, arith, unsigned_abs, slice_index_or, nat_le, None}
+use Rattle.std.proofs.Common.{◌≡◌, ◌<◌, ◌≤◌, ◌+◌, ◌*◌, inl, inr, ℕ, zero, suc, ℤ, true, ◌&&◌, List, [], ◌∷◌, length, map, drop, All, sym, subst, ◌∙◌, arith, unsigned_abs, slice_index_or, nat_le, None}
 use Rattle.std.specs.List.{list_all, range_with_len}
-use Rattle.std.specs.Ordering.{int_eq}
-use Rattle.std.proofs.lemmas.Int.{ints}
-use Rattle.std.proofs.lemmas.Bool.Decides.{nat_tests, Decides-int_eq}
+use Rattle.std.proofs.lemmas.Bool.Decides.{nat_tests}
 use Rattle.std.proofs.lemmas.List.{length-map, length-drop, length-take-le}
 use Rattle.std.proofs.lemmas.List.Elements.{All-map, All-cons, All-from_recursion}
 use Rattle.std.proofs.lemmas.List.FromFn.{length-map-range_with_len, get_or-map-range_with_len}

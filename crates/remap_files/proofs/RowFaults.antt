@@ -1,5 +1,5 @@
 -- The first row at fault.
-use Rattle.std.proofs.Common.{◌≡◌, ◌<◌, ◌≤◌, ◌+◌, ◌*◌, ◌⊎◌, inl, inr, ℕ, zero, suc, ℤ, pos, Bool, true, false, not, cond, List, [], ◌∷◌, length, take, drop, map, ◌≢◌, ◌==◌, if◌then◌else◌, Option, Some, None, Ok, Err, refl, ap, sym, subst, ◌∙◌, arith, unsigned_abs, slice_index_or}
+use Rattle.std.proofs.Common.{◌≡◌, ◌<◌, ◌≤◌, ◌+◌, ◌*◌, ℕ, suc, ℤ, pos, true, false, cond, List, [], ◌∷◌, length, take, drop, map, ◌≢◌, ◌==◌, if◌then◌else◌, Option, Some, None, Ok, Err, refl, ap, ◌∙◌, arith, unsigned_abs, slice_index_or}
 use Rattle.std.specs.List.{range_with_len, sum_by}
 use Rattle.std.proofs.lemmas.Bool.{lt-ltb, le-ltb}
 use Rattle.std.proofs.lemmas.Bool.Decides.{nat_tests}

@@ -1,8 +1,7 @@
 -- The rows that are written of an overlap are its pieces again.
-use Rattle.std.proofs.Common.{◌≡◌, ◌<◌, ◌≤◌, ◌+◌, ◌-◌, ◌*◌, inl, inr, ◌==◌, ℕ, zero, suc, ℤ, pos, Bool, true, false, int_lt, ◌&&◌, ◌||◌, List, [], ◌∷◌, ◌++◌, length, map, take, drop, All, AllPairs, None, refl, ap, ap₂, sym, subst, ◌∙◌, arith, unsigned_abs, slice_index_or, nat_le}
+use Rattle.std.proofs.Common.{◌≡◌, ◌<◌, ◌≤◌, ◌+◌, ◌-◌, ◌*◌, inl, inr, ◌==◌, ℕ, zero, suc, ℤ, pos, true, int_lt, ◌&&◌, ◌||◌, List, [], ◌∷◌, ◌++◌, length, map, take, drop, All, AllPairs, None, refl, ap, ap₂, sym, subst, ◌∙◌, arith, unsigned_abs, slice_index_or, nat_le}
 use Rattle.std.specs.Ordering.{int_eq}
 use Rattle.std.specs.List.{flat_map, list_all, range_with_len, sum_by, AllByRecursion}
-use Rattle.std.proofs.lemmas.Int.{ints}
 use Rattle.std.proofs.lemmas.Bool.Decides.{nat_tests, Decides-int_eq}
 use Rattle.std.proofs.lemmas.Grind.{flat_map-append}
 use Rattle.std.proofs.lemmas.List.{take-append-drop, drop_at, take_at, take_all, length-map, get_or-map, get_or-take, ext_get_or}

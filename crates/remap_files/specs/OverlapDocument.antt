@@ -9,7 +9,6 @@ use Rattle.nc_write.specs.declared.NcDoc.{NcDoc}
 use Rattle.nc_write.specs.declared.DocDim.{DocDim}
 use Rattle.nc_write.specs.declared.DocAtt.{DocAtt}
 use Rattle.nc_write.specs.declared.DocVar.{DocVar}
-use Rattle.nc_write.specs.declared.Values.{Values}
 use Rattle.nc_write.specs.declared.Values.TheVariants.{Byte, Int}
 use Rattle.nc_write.specs.Extents.{rounded}
 use Rattle.exodus_mesh.specs.MeshDocument.{dimension_of}

@@ -1,9 +1,8 @@
 -- The counts and the variables of an overlap in a file, or the first fault of names, in the order in which names and
 -- shapes are tested. The whole form is our own.
-use Rattle.std.specs.Prelude.{ℕ, ℤ, pos, [], ◌∷◌, Bool, Result, Ok, Err, ◌==◌, ◌&&◌, if◌then◌else◌, int_le, unsigned_abs}
+use Rattle.std.specs.Prelude.{ℕ, ℤ, [], ◌∷◌, Result, Ok, Err, ◌==◌, if◌then◌else◌, unsigned_abs}
 use Rattle.nc_format.specs.declared.NcFile.{NcFile}
 use Rattle.nc_format.specs.Numbers.{att_named, one_int}
-use Rattle.exodus_mesh.specs.declared.kinds.NumberKind.{NumberKind}
 use Rattle.exodus_mesh.specs.declared.kinds.NumberKind.TheVariants.{Int}
 use Rattle.exodus_mesh.specs.declared.ids.NameId.{NameId}
 use Rattle.exodus_mesh.specs.declared.ids.NameId.TheVariants.{FacesA, FacesB, Pieces, Source, Target, RingSize, RingPlane, Corner}

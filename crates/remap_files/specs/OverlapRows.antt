@@ -1,8 +1,7 @@
 -- The pieces that the numbers of a file say, row by row, and the first row at fault. The whole form is our own.
 -- A row counts from 0 here, and from 1 in a fault.
-use Rattle.std.specs.Prelude.{ℕ, ◌+◌, ◌-◌, ◌*◌, ℤ, pos, List, [], ◌∷◌, length, map, take, drop, Bool, nat_lt, nat_le, ◌==◌, ◌&&◌, ◌||◌, int_lt, if◌then◌else◌, unsigned_abs, slice_index_or, Option, Some, None, Result, Ok, Err}
+use Rattle.std.specs.Prelude.{ℕ, ◌+◌, ◌*◌, ℤ, List, [], ◌∷◌, length, map, take, drop, Bool, nat_lt, nat_le, ◌==◌, ◌&&◌, if◌then◌else◌, unsigned_abs, slice_index_or, Option, Some, None, Result, Ok, Err}
 use Rattle.std.specs.List.{list_all, range_with_len, sum_by}
-use Rattle.std.specs.Ordering.{int_eq}
 use Rattle.clip.specs.declared.pieces.Piece.{Piece}
 use Rattle.clip.specs.Overlaps.{OverlapParts}
 use Rattle.exodus_mesh.specs.MeshValues.{rows_of}

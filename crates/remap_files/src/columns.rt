@@ -65,9 +65,7 @@ fn put_corner(values: &mut Vec<i32>, corner: &[i32; 3]) -> Result<(), AllocError
     ensures values { OnOk result (values.new.items ≡ values.old.items ++ triple_of corner.now) }
     ensures typed { OnOk result (IsCorner corner.now) }
 {
-    values.push(corner[0])?;
-    values.push(corner[1])?;
-    values.push(corner[2])?;
+    values.extend_from_slice(&[corner[0], corner[1], corner[2]])?;
     Ok(())
 }
 
