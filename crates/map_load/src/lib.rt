@@ -6,9 +6,9 @@ mod loading;
 mod refusal;
 mod values;
 
+use exodus_mesh::FileFault;
 pub use laws::law_one_map_file;
 pub use loading::load_map;
-use exodus_mesh::FileFault;
 use remap_load::FileRefusal;
 
 /// Why no map was loaded from a file. A fault of what the file holds is never want of memory.

@@ -6,9 +6,9 @@ mod loading;
 mod refusal;
 mod windows;
 
+use exodus_mesh::FileFault;
 pub use laws::law_one_overlap_file;
 pub use loading::load_overlap;
-use exodus_mesh::FileFault;
 use remap_load::FileRefusal;
 pub use windows::{OverlapReader, open_overlap};
 

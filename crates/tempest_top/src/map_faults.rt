@@ -8,10 +8,10 @@ use crate::Status;
 use crate::faults::{put_name_fault, put_numbered, refuse_load};
 use crate::finish::refuse_memory;
 use crate::lines::put_line;
+use exodus_mesh::FileFault;
 use itoa::Buffer;
 use offline_map::MapFault;
 use overlap_load::OverlapRefusal;
-use exodus_mesh::FileFault;
 use remap_io::Sink;
 use remap_load::FileRefusal;
 
