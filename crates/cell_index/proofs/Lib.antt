@@ -3,6 +3,7 @@ pub mod PanelForms
 pub mod Places
 pub mod BoxCells
 pub mod FaceNodes
+pub mod SixBoxes
 pub mod Sides
 pub mod Fair
 pub mod Sharing

@@ -10,6 +10,7 @@ mod face_boxes;
 mod filling;
 mod index;
 mod kept;
+mod kept_boxes;
 mod laws;
 mod search;
 mod shared_cells;

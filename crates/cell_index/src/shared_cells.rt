@@ -3,6 +3,7 @@ ghost use Rattle.std.specs.Prelude.{IsTrue, ◌↔◌};
 ghost use Rattle.cell_index.specs.Candidate.{SharesCell};
 ghost use Rattle.cell_index.specs.IndexOf.{Share, IsSharer};
 
+use crate::kept_boxes::{KeptBoxes, kept};
 use crate::{Boxes, CellBox};
 
 // Whether there are both boxes, and they share a cell.
@@ -31,7 +32,7 @@ fn share(a: &Boxes, b: &Boxes) -> bool
 }
 
 // Whether j is the number of a face that shares a cell with these boxes.
-pub(crate) fn is_sharer(own: &Boxes, all: &[Boxes], j: u32) -> bool
+pub(crate) fn is_sharer(own: &Boxes, all: &[KeptBoxes], j: u32) -> bool
     ensures { IsTrue result ↔ IsSharer own.now.panel all.now j }
 {
     if j < 1 {
@@ -41,5 +42,5 @@ pub(crate) fn is_sharer(own: &Boxes, all: &[Boxes], j: u32) -> bool
     if all.len() <= place {
         return false;
     }
-    share(own, &all[place])
+    share(own, &kept(&all[place]))
 }
