@@ -7,11 +7,12 @@ use Rattle.clap.specs.Words.{App, Row, new_app, new_rule, with_rule, matches_of,
 use Rattle.clap.specs.Words as clap
 use Rattle.clap.specs.Simple.{on_top}
 use Rattle.clap.specs.declared.builder.ArgAction.TheVariants.{Set, SetTrue}
+use Rattle.command_line.specs.declared.choices.Chosen.{Chosen}
 use Rattle.command_line.specs.declared.table.Command.{Command}
 use Rattle.command_line.specs.declared.table.Form.{Form}
 use Rattle.command_line.specs.declared.table.Form.TheVariants.{Text, Number, Flag}
 use Rattle.command_line.specs.Table.{Rule, rules_of, word_of}
-use Rattle.command_line.specs.Words.{is_number}
+use Rattle.command_line.specs.Words.{choice_of, is_number}
 
 -- What stands behind a name, as `at` of the grammar gives it.
 abbrev pub Value : Type 0
@@ -58,6 +59,10 @@ truth false = codes "false"
 -- clap has a flag's value as a text.
 abbrev pub says_true : (List ℕ → Option (List ℕ)) → List ℕ → Bool
 says_true told name = option_map_or (λ t. bytes_eq t (codes "true")) (told name) false
+
+-- The command with its options, by what clap gives back.
+abbrev pub IsChosen : Command → (List ℕ → Option (List ℕ)) → Chosen → Type 0
+IsChosen command told chosen = chosen ≡ choice_of command told (says_true told)
 
 -- What clap gives back for an option: its value, or whether the flag stands.
 abbrev pub ReadsBack : Form → List ℕ → Value → List Row → Type 0
