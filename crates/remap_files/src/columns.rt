@@ -8,7 +8,7 @@ ghost use Rattle.clip.specs.declared.pieces.Piece.{Piece};
 use clip::Piece;
 use std::alloc::{AllocError, Global};
 
-pub fn sources(alloc: Global, pieces: &[Piece]) -> Result<Vec<i32>, AllocError>
+fn sources(alloc: Global, pieces: &[Piece]) -> Result<Vec<i32>, AllocError>
     requires { All HasSmallNumbers pieces.now }
     ensures { IfOk result (λ values. values.items ≡ source_column pieces.now) }
 {
@@ -19,7 +19,7 @@ pub fn sources(alloc: Global, pieces: &[Piece]) -> Result<Vec<i32>, AllocError>
     Ok(values)
 }
 
-pub fn targets(alloc: Global, pieces: &[Piece]) -> Result<Vec<i32>, AllocError>
+fn targets(alloc: Global, pieces: &[Piece]) -> Result<Vec<i32>, AllocError>
     requires { All HasSmallNumbers pieces.now }
     ensures { IfOk result (λ values. values.items ≡ target_column pieces.now) }
 {
@@ -30,7 +30,7 @@ pub fn targets(alloc: Global, pieces: &[Piece]) -> Result<Vec<i32>, AllocError>
     Ok(values)
 }
 
-pub fn ring_sizes(alloc: Global, pieces: &[Piece]) -> Result<Vec<i8>, AllocError>
+fn ring_sizes(alloc: Global, pieces: &[Piece]) -> Result<Vec<i8>, AllocError>
     ensures { IfOk result (λ values. values.items ≡ ring_size_column pieces.now) }
 {
     let mut values = Vec::with_capacity(alloc, pieces.len())?;
@@ -50,7 +50,7 @@ fn put_ring(values: &mut Vec<i8>, ring: &[u8]) -> Result<(), AllocError>
     Ok(())
 }
 
-pub fn ring_planes(alloc: Global, pieces: &[Piece], count: usize) -> Result<Vec<i8>, AllocError>
+fn ring_planes(alloc: Global, pieces: &[Piece], count: usize) -> Result<Vec<i8>, AllocError>
     requires { All HasSmallNumbers pieces.now }
     ensures { IfOk result (λ values. values.items ≡ ring_plane_column pieces.now) }
 {
@@ -88,7 +88,7 @@ fn put_piece(values: &mut Vec<i32>, piece: &Piece) -> Result<(), AllocError>
     put_corners(values, piece.corners.items.as_slice())
 }
 
-pub fn corners(alloc: Global, pieces: &[Piece], count: usize) -> Result<Vec<i32>, AllocError>
+fn corners(alloc: Global, pieces: &[Piece], count: usize) -> Result<Vec<i32>, AllocError>
     requires { 3 * count < 2 ^ 63 }
     ensures values { IfOk result (λ values. values.items ≡ corner_column pieces.now) }
     ensures typed { OnOk result (All (λ (p : Piece). All IsCorner p.corners) pieces.now) }
@@ -98,4 +98,37 @@ pub fn corners(alloc: Global, pieces: &[Piece], count: usize) -> Result<Vec<i32>
         put_piece(&mut values, piece)?;
     }
     Ok(values)
+}
+
+/// The columns with a number for each piece.
+pub fn piece_columns(
+    alloc: Global,
+    pieces: &[Piece],
+) -> Result<(Vec<i32>, Vec<i32>, Vec<i8>), AllocError>
+    requires { All HasSmallNumbers pieces.now }
+    ensures source { IfOk result (λ p. p.0.items ≡ source_column pieces.now) }
+    ensures target { IfOk result (λ p. p.1.items ≡ target_column pieces.now) }
+    ensures ring_size { IfOk result (λ p. p.2.items ≡ ring_size_column pieces.now) }
+{
+    let sources = sources(alloc, pieces)?;
+    let targets = targets(alloc, pieces)?;
+    let ring_sizes = ring_sizes(alloc, pieces)?;
+    Ok((sources, targets, ring_sizes))
+}
+
+/// The columns with numbers for each of so many corners.
+pub fn ring_columns(
+    alloc: Global,
+    pieces: &[Piece],
+    count: usize,
+) -> Result<(Vec<i8>, Vec<i32>), AllocError>
+    requires small { All HasSmallNumbers pieces.now }
+    requires count { 3 * count < 2 ^ 63 }
+    ensures planes { IfOk result (λ p. p.0.items ≡ ring_plane_column pieces.now) }
+    ensures corners { IfOk result (λ p. p.1.items ≡ corner_column pieces.now) }
+    ensures typed { OnOk result (All (λ (p : Piece). All IsCorner p.corners) pieces.now) }
+{
+    let ring_planes = ring_planes(alloc, pieces, count)?;
+    let corners = corners(alloc, pieces, count)?;
+    Ok((ring_planes, corners))
 }

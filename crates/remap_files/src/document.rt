@@ -1,5 +1,5 @@
 // The document of an overlap.
-ghost use Rattle.std.specs.Prelude.{◌≡◌, ◌≤◌, ◌<◌, ◌^◌, ◌*◌, All, length, IfOk, OnOk, Ok};
+ghost use Rattle.std.specs.Prelude.{◌≡◌, ◌≤◌, ◌<◌, ◌^◌, ◌*◌, ◌++◌, ◌∷◌, [], All, length, IfOk, OnOk, Ok};
 ghost use Rattle.clip.specs.Columns.{AreColumnsOf};
 ghost use Rattle.clip.specs.Overlaps.{IsSoundOverlap};
 ghost use Rattle.nc_write.specs.File.{file_of};
@@ -8,10 +8,11 @@ ghost use Rattle.nc_write.specs.declared.Values.TheVariants.{Byte, Int};
 ghost use Rattle.nc_format.specs.declared.NcFile.{NcFile};
 ghost use Rattle.nc_format.specs.Header.{IsHeader};
 ghost use Rattle.remap_files.specs.OverlapIn.{overlap_in};
-ghost use Rattle.remap_files.specs.OverlapDocument.{HasCorners, corner_count_of, overlap_atts, overlap_dims, overlap_document, overlap_file_len};
+ghost use Rattle.exodus_mesh.specs.MeshDocument.{dimension_of};
+ghost use Rattle.remap_files.specs.OverlapDocument.{HasCorners, attribute_of, corner_count_of, overlap_atts, overlap_dims, overlap_document, overlap_file_len};
 
 use crate::column_document::document_of;
-use crate::columns::{corners, ring_planes, ring_sizes, sources, targets};
+use crate::columns::{piece_columns, ring_columns};
 use crate::lengths::corner_count;
 use crate::names::make_attribute;
 use clip::{Columns, Overlap};
@@ -19,6 +20,39 @@ use exodus_mesh::make_dimension;
 use nc_write::{Bytes8, DocAtt, DocDim, NcDoc, Values};
 use std::alloc::{AllocError, Global};
 use vec_exact::{Ints, NoMemory};
+
+fn put_attribute(
+    alloc: Global,
+    atts: &mut Vec<DocAtt>,
+    text: &str,
+    value: u32,
+) -> Result<(), AllocError>
+    requires { value < 2 ^ 31 }
+    ensures { OnOk result
+        (atts.new.items ≡ atts.old.items ++ attribute_of text.now value ∷ []) }
+{
+    atts.push(make_attribute(alloc, text, value)?)?;
+    Ok(())
+}
+
+// A function that borrows the list lets nothing go on its ways out.
+fn put_attributes(
+    alloc: Global,
+    atts: &mut Vec<DocAtt>,
+    faces_a: u32,
+    faces_b: u32,
+    pieces: u32,
+) -> Result<(), AllocError>
+    requires empty { atts.old.items ≡ [] }
+    requires source { faces_a < 2 ^ 31 }
+    requires target { faces_b < 2 ^ 31 }
+    requires pieces { pieces < 2 ^ 31 }
+    ensures { OnOk result (atts.new.items ≡ overlap_atts faces_a faces_b pieces) }
+{
+    put_attribute(alloc, atts, "faces_a", faces_a)?;
+    put_attribute(alloc, atts, "faces_b", faces_b)?;
+    put_attribute(alloc, atts, "pieces", pieces)
+}
 
 pub fn make_attributes(
     alloc: Global,
@@ -32,19 +66,41 @@ pub fn make_attributes(
     ensures { IfOk result (λ atts. atts.items ≡ overlap_atts faces_a faces_b pieces) }
 {
     let mut atts = Vec::with_capacity(alloc, 3)?;
-    atts.push(make_attribute(alloc, "faces_a", faces_a)?)?;
-    atts.push(make_attribute(alloc, "faces_b", faces_b)?)?;
-    atts.push(make_attribute(alloc, "pieces", pieces)?)?;
+    put_attributes(alloc, &mut atts, faces_a, faces_b, pieces)?;
     Ok(atts)
+}
+
+fn put_dimension(
+    alloc: Global,
+    dims: &mut Vec<DocDim>,
+    text: &str,
+    len: u32,
+) -> Result<(), AllocError>
+    ensures { OnOk result (dims.new.items ≡ dims.old.items ++ dimension_of text.now len ∷ []) }
+{
+    dims.push(make_dimension(alloc, text, len)?)?;
+    Ok(())
+}
+
+fn put_dimensions(
+    alloc: Global,
+    dims: &mut Vec<DocDim>,
+    pieces: u32,
+    corners: u32,
+) -> Result<(), AllocError>
+    requires { dims.old.items ≡ [] }
+    ensures { OnOk result (dims.new.items ≡ overlap_dims pieces corners) }
+{
+    put_dimension(alloc, dims, "num_pieces", pieces)?;
+    put_dimension(alloc, dims, "num_corners", corners)?;
+    put_dimension(alloc, dims, "num_dim", 3)
 }
 
 pub fn make_dimensions(alloc: Global, pieces: u32, corners: u32) -> Result<Vec<DocDim>, AllocError>
     ensures { IfOk result (λ dims. dims.items ≡ overlap_dims pieces corners) }
 {
     let mut dims = Vec::with_capacity(alloc, 3)?;
-    dims.push(make_dimension(alloc, "num_pieces", pieces)?)?;
-    dims.push(make_dimension(alloc, "num_corners", corners)?)?;
-    dims.push(make_dimension(alloc, "num_dim", 3)?)?;
+    put_dimensions(alloc, &mut dims, pieces, corners)?;
     Ok(dims)
 }
 
@@ -68,12 +124,14 @@ fn columns_of(alloc: Global, overlap: &Overlap) -> Result<Columns, AllocError>
 {
     let pieces = &overlap.pieces.items;
     let count = corner_count(overlap) as usize;
+    let (sources, targets, ring_sizes) = piece_columns(alloc, pieces)?;
+    let (ring_planes, corners) = ring_columns(alloc, pieces, count)?;
     Ok(Columns {
-        sources: sources(alloc, pieces)?,
-        targets: targets(alloc, pieces)?,
-        ring_sizes: ring_sizes(alloc, pieces)?,
-        ring_planes: ring_planes(alloc, pieces, count)?,
-        corners: corners(alloc, pieces, count)?,
+        sources,
+        targets,
+        ring_sizes,
+        ring_planes,
+        corners,
     })
 }
 
