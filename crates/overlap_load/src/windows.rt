@@ -285,8 +285,37 @@ fn test_rows(vars: &OverlapVars, values: &[Ints]) -> Result<(), OverlapRefusal>
     }
 }
 
-// The reader of a file whose head was loaded. The names are tested before any value is read, and
-// the rows before any corner.
+// The variables of a file whose head was loaded, and the numbers that tell its rows. The names are
+// tested before any value is read, and the rows before any corner.
+fn rows_by_head<F: Files>(
+    alloc: Global,
+    files: &mut F,
+    name: &str,
+    head: &Head,
+) -> Result<(OverlapVars, Vec<Ints>), OverlapRefusal>
+    requires head { IsHead head.now }
+    requires of_file { OnFile (F.seen files.old).folder name.now (IsHeadOfBytes head.now) }
+    ensures found { IfOk result (λ p. overlap_vars_in head.now.file ≡ Ok p.0) }
+    ensures values { IfOk result (λ p. OnFile (F.seen files.old).folder name.now (λ bytes.
+        p.1.items ≡ lists_in head.now.file bytes (take 4 p.0.vars))) }
+    ensures lens { IfOk result (λ p. map length p.1.items ≡ take 4 (overlap_lens p.0)) }
+    ensures good { IfOk result (λ p.
+        row_fault p.0 (with_corners (columns_of p.1.items) []) ≡ None) }
+    ensures refusal { IfErr result
+        (IsFileRefusal overlap_kind (F.seen files.old) (F.seen files.new) name.now) }
+    ensures reads { OnlyReads (F.seen files.old) (F.seen files.new) }
+    ensures asked { IfOk result (λ p. (F.seen files.new).taken ≤ (F.seen files.old).taken
+        + sum_by (bytes_at head.now.file) (take 4 p.0.vars)) }
+    ensures values_last { IfErr result (λ refusal. IsOfHead refusal
+        → (F.seen files.new).taken ≡ (F.seen files.old).taken) }
+{
+    let vars = named_vars(alloc, &head.file)?;
+    let values = load_rows(alloc, files, name, head, &vars)?;
+    test_rows(&vars, &values)?;
+    Ok((vars, values))
+}
+
+// The reader of a file whose head was loaded.
 fn open_by_head<F: Files>(
     alloc: Global,
     files: &mut F,
@@ -305,21 +334,25 @@ fn open_by_head<F: Files>(
     ensures values_last { IfErr result (λ refusal. IsOfHead refusal
         → (F.seen files.new).taken ≡ (F.seen files.old).taken) }
 {
-    let vars = named_vars(alloc, &head.file)?;
-    let values = load_rows(alloc, files, name, &head, &vars)?;
-    test_rows(&vars, &values)?;
-    Ok(OverlapReader {
-        head,
-        vars,
-        values,
-        at: 0,
-        begin: 0,
-        corners: Ints {
-            items: Vec::new(alloc),
-        },
-        first: 0,
-        end: 0,
-    })
+    match rows_by_head(alloc, files, name, &head) {
+        Ok((vars, values)) => Ok(OverlapReader {
+            head,
+            vars,
+            values,
+            at: 0,
+            begin: 0,
+            corners: Ints {
+                items: Vec::new(alloc),
+            },
+            first: 0,
+            end: 0,
+        }),
+        Err(why) => {
+            // This is cheaper to prove than what a way out lets go by itself.
+            drop(head);
+            Err(why)
+        }
+    }
 }
 
 /// The reader of the overlap that the named file holds, before its first piece.

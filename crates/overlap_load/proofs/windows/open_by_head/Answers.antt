@@ -1,55 +1,24 @@
-use Rattle.std.proofs.Common.{◌≡◌, ◌∙◌, [], List, ℤ, None, ap, sym, subst, arith}
-use Rattle.nc_format.proofs.SoundParts.{header_is_sound}
-use Rattle.remap_files.specs.OverlapRows.{columns_of, row_fault}
-use Rattle.remap_files.specs.Rows.{with_corners}
-use Rattle.remap_files.proofs.FoundOverlap.{overlap_vars_ok}
-use Rattle.remap_load.specs.Kinds.{IsFileRefusal}
-use Rattle.remap_load.proofs.Contents.{handed_on}
-use Rattle.overlap_load.specs.OverlapFile.{overlap_kind}
-use Rattle.overlap_load.specs.Windows.{IsReader, IsRead, IsRowRefusal}
-use Rattle.overlap_load.proofs.OneOverlap.{header_refusal, needed_is}
-use Rattle.overlap_load.proofs.Windowed.{begun, begun_reader, begun_read, begun_cost, row_refused}
+use Rattle.std.proofs.Common.{[], List, ℤ, sym, subst, arith}
+use Rattle.overlap_load.specs.Windows.{IsReader, IsRead}
+use Rattle.overlap_load.proofs.OneOverlap.{needed_is}
+use Rattle.overlap_load.proofs.Windowed.{begun, begun_reader, begun_read, begun_cost}
 use Rattle.overlap_load.proofs.windows.open_by_head.Goals as goal
 
-pub named_vars-requires : goal.named_vars-requires
-named_vars-requires g c = let head = c.args.head in header_is_sound head.prefix head.len head.file c.requires.head.header
-
-pub returns-in_err-vars-clause-refusal : goal.returns-in_err-vars-clause-refusal
-returns-in_err-vars-clause-refusal g c =
-    let seen = g.F.Files.seen c.args.files.now in
-    let found = c.in_err-vars.field-0.0 in
-    handed_on (IsFileRefusal overlap_kind seen seen c.args.name.now) c.from_residual.result found c.from_residual.ensures.1
-    (header_refusal seen seen c.args.name.now c.args.head found c.requires.head c.requires.of_file c.in_err-vars.ensures.refusal)
-
-pub test_rows-requires-clause-count : goal.test_rows-requires-clause-count
-test_rows-requires-clause-count g c = (overlap_vars_ok c.args.head.file c.in_ok-vars.vars c.in_ok-vars.ensures.found).pieces
-
-pub returns-in_err-test_rows-clause-refusal : goal.returns-in_err-test_rows-clause-refusal
-returns-in_err-test_rows-clause-refusal g c =
-    let old = g.F.Files.seen c.args.files.now in
-    let new = g.F.Files.seen c.load_rows.new.files in
-    let vars = c.in_ok-vars.vars in
-    let found = c.in_err-test_rows.field-0.0 in
-    let values = c.in_ok-values.values.items in
-    let refusal : IsRowRefusal vars (with_corners (columns_of values) []) found = subst (λ (l : List (List ℤ)). IsRowRefusal vars (with_corners (columns_of l) []) found) c.deref.ensures.value c.in_err-test_rows.ensures.refusal in
-    handed_on (IsFileRefusal overlap_kind old new c.args.name.now) c.from_residual-in_err-test_rows.result found c.from_residual-in_err-test_rows.ensures.1
-    (row_refused old new c.args.name.now c.args.head vars values found c.requires.head c.requires.of_file c.in_ok-vars.ensures.found c.in_ok-values.ensures.values refusal)
-
-pub returns-clause-read : goal.returns-clause-read
-returns-clause-read g c =
+pub returns-in-Ok-clause-read : goal.returns-in-Ok-clause-read
+returns-in-Ok-clause-read g c =
     let head = c.args.head in
-    let vars = c.in_ok-vars.vars in
-    let values = c.in_ok-values.values.items in
+    let vars = c.in-Ok.vars in
+    let values = c.in-Ok.values.items in
+    let rows = c.in-Ok.ensures in
     let folder = (g.F.Files.seen c.args.files.now).folder in
-    let none : row_fault vars (with_corners (columns_of values) []) ≡ None = ap (λ (l : List (List ℤ)). row_fault vars (with_corners (columns_of l) [])) (sym c.deref.ensures.value) ∙ c.in_ok-test_rows.ensures.good in
-    let reader : IsReader (begun head vars values) = begun_reader head vars values c.requires.head c.in_ok-vars.ensures.found c.in_ok-values.ensures.lens none in
-    subst (λ (l : List ℤ). IsRead folder c.args.name.now (record (begun head vars values) { corners = l }) []) (sym c.new.ensures.items) (begun_read folder c.args.name.now head vars values reader c.requires.of_file c.in_ok-values.ensures.values)
+    let reader : IsReader (begun head vars values) = begun_reader head vars values c.requires.head rows.found rows.lens rows.good in
+    subst (λ (l : List ℤ). IsRead folder c.args.name.now (record (begun head vars values) { corners = l }) []) (sym c.new.ensures.items) (begun_read folder c.args.name.now head vars values reader c.requires.of_file rows.values)
 
-pub returns-clause-asked : goal.returns-clause-asked
-returns-clause-asked g c =
+pub returns-in-Ok-clause-asked : goal.returns-in-Ok-clause-asked
+returns-in-Ok-clause-asked g c =
     let head = c.args.head in
-    let vars = c.in_ok-vars.vars in
-    let values = c.in_ok-values.values.items in
-    let none : row_fault vars (with_corners (columns_of values) []) ≡ None = ap (λ (l : List (List ℤ)). row_fault vars (with_corners (columns_of l) [])) (sym c.deref.ensures.value) ∙ c.in_ok-test_rows.ensures.good in
-    let reader : IsReader (begun head vars values) = begun_reader head vars values c.requires.head c.in_ok-vars.ensures.found c.in_ok-values.ensures.lens none in
-    omega (arith, begun_cost head vars values reader, c.in_ok-values.ensures.reads.asked, needed_is head.file vars c.in_ok-vars.ensures.found)
+    let vars = c.in-Ok.vars in
+    let values = c.in-Ok.values.items in
+    let rows = c.in-Ok.ensures in
+    let reader : IsReader (begun head vars values) = begun_reader head vars values c.requires.head rows.found rows.lens rows.good in
+    omega (arith, begun_cost head vars values reader, rows.asked, needed_is head.file vars rows.found)
