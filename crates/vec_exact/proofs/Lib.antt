@@ -2,6 +2,7 @@ pub mod Whole
 pub mod Ring
 pub mod Signs
 pub mod Bounds
+pub mod Bits
 pub mod Rounded
 pub mod Terms
 pub mod Identities

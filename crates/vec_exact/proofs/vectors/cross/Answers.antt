@@ -4,7 +4,23 @@ use mir.Syntax.{w128}
 use Rattle.vec_exact.specs.Size.{Is37, Is75}
 use Rattle.vec_exact.proofs.Terms.{vec_eq}
 use Rattle.vec_exact.proofs.Bounds.{both_37, cross_is37, cross_is75}
+use Rattle.vec_exact.proofs.Bits.{read_37}
 use Rattle.vec_exact.proofs.vectors.cross.Goals as goal
+
+pub minor-requires : goal.minor-requires
+minor-requires c =
+    let p = both_37 c.args.a c.args.b c.requires in
+    record { a_size = read_37 c.args.a.y p.0.y; b_size = read_37 c.args.a.z p.0.z; c_size = read_37 c.args.b.y p.1.y; d_size = read_37 c.args.b.z p.1.z }
+
+pub minor-requires-2 : goal.minor-requires-2
+minor-requires-2 c =
+    let p = both_37 c.args.a c.args.b c.requires in
+    record { a_size = read_37 c.args.a.z p.0.z; b_size = read_37 c.args.a.x p.0.x; c_size = read_37 c.args.b.z p.1.z; d_size = read_37 c.args.b.x p.1.x }
+
+pub minor-requires-3 : goal.minor-requires-3
+minor-requires-3 c =
+    let p = both_37 c.args.a c.args.b c.requires in
+    record { a_size = read_37 c.args.a.x p.0.x; b_size = read_37 c.args.a.y p.0.y; c_size = read_37 c.args.b.x p.1.x; d_size = read_37 c.args.b.y p.1.y }
 
 pub returns-clause-value : goal.returns-clause-value
 returns-clause-value c =

@@ -1,7 +1,8 @@
 use Rattle.std.proofs.Common.{◌<◌, ◌^◌, unsigned_abs, ℤ, arith, FitsSigned, rules, sym, subst}
-use Rattle.std.proofs.lemmas.Int.{ints, to_z-of_z}
+use Rattle.std.proofs.lemmas.Int.{to_z-of_z}
 use mir.Syntax.{w128}
 use Rattle.vec_exact.proofs.Bounds.{small_products, inner_below, read_three}
+use Rattle.vec_exact.proofs.Bits.{sum_fits, sum_fits_3}
 use Rattle.vec_exact.proofs.vectors.dot.Goals as goal
 
 pub product-requires-2 : goal.product-requires-2
@@ -20,10 +21,10 @@ product-requires c =
     simp to_z-of_z (omega (arith, (small_products c.args.a c.args.b c.requires).x))
 
 pub overflow_add-result : goal.overflow_add-result
-overflow_add-result c = omega (arith, ints)
+overflow_add-result c = sum_fits c.product.result c.product-2.result c.product.ensures.size c.product-2.ensures.size
 
 pub overflow_add-result-2 : goal.overflow_add-result-2
-overflow_add-result-2 c = omega (arith, ints)
+overflow_add-result-2 c = sum_fits_3 c.product.result c.product-2.result c.product-3.result c.product.ensures.size c.product-2.ensures.size c.product-3.ensures.size
 
 pub returns-clause-value : goal.returns-clause-value
 returns-clause-value c =
