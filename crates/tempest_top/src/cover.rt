@@ -36,17 +36,17 @@ fn covered_text(alloc: Global, a: &Mesh, b: &Mesh) -> Result<String, NoMemory>
 // Puts what the source mesh covers of the target mesh.
 fn tell_coverage<O: Sink, E: Sink>(
     alloc: Global,
-    a: Mesh,
-    b: Mesh,
+    a: &Mesh,
+    b: &Mesh,
     out: &mut O,
     err: &mut E,
 ) -> Status
-    ensures comes { (files : FilesSeen) → Comes [] NoText None (IsOutcomeOfCoverage a b)
+    ensures comes { (files : FilesSeen) → Comes [] NoText None (IsOutcomeOfCoverage a.now b.now)
         (scene files (O.seen out.old) (E.seen err.old))
         (scene files (O.seen out.new) (E.seen err.new)) result }
     ensures no_line { result ≡ Status.Done → err.new ≡ err.old }
 {
-    let Ok(text) = covered_text(alloc, &a, &b) else {
+    let Ok(text) = covered_text(alloc, a, b) else {
         return refuse_memory(err);
     };
     put_text_alone(out, err, text.as_bytes())
@@ -73,7 +73,14 @@ pub fn check_coverage<F: Files, O: Sink, E: Sink>(
     };
     let target = match mesh_of(alloc, files, b) {
         Ok(mesh) => mesh,
-        Err(why) => return refuse_mesh(err, b, why),
+        Err(why) => {
+            // This is cheaper to prove than what a way out lets go by itself.
+            drop(source);
+            return refuse_mesh(err, b, why);
+        }
     };
-    tell_coverage(alloc, source, target, out, err)
+    let status = tell_coverage(alloc, &source, &target, out, err);
+    drop(source);
+    drop(target);
+    status
 }

@@ -131,13 +131,21 @@ fn map_of_pieces<F: Files>(
     let count = reader.piece_count();
     let mut maker = match MapMaker::begin(alloc, a, b, faces_a, faces_b, count) {
         Ok(maker) => maker,
-        Err(fault) => return Err(NoMap::Fault(fault)),
+        Err(fault) => {
+            // This is cheaper to prove than what a way out lets go by itself; so below.
+            drop(reader);
+            return Err(NoMap::Fault(fault));
+        }
     };
-    match put_pieces(alloc, files, name, &mut reader, &mut maker) {
-        Ok(()) => {}
-        Err(why) => return Err(why),
-    }
+    let put = put_pieces(alloc, files, name, &mut reader, &mut maker);
     drop(reader);
+    match put {
+        Ok(()) => {}
+        Err(why) => {
+            drop(maker);
+            return Err(why);
+        }
+    }
     match maker.finish(alloc) {
         Ok(map) => Ok(map),
         Err(fault) => Err(NoMap::Fault(fault)),
@@ -258,13 +266,16 @@ pub fn generate_map<F: Files, O: Sink, E: Sink>(
     };
     let target = match mesh_of(alloc, files, b) {
         Ok(mesh) => mesh,
-        Err(why) => return refuse_mesh(err, b, why),
+        Err(why) => {
+            drop(source);
+            return refuse_mesh(err, b, why);
+        }
     };
-    let map = match map_of_file(alloc, files, &source, &target, ov_mesh.text.as_str()) {
-        Ok(map) => map,
-        Err(why) => return refuse_no_map(err, ov_mesh, why),
-    };
+    let made = map_of_file(alloc, files, &source, &target, ov_mesh.text.as_str());
     drop(source);
     drop(target);
-    write_map(alloc, map, file, files, out, err)
+    match made {
+        Ok(map) => write_map(alloc, map, file, files, out, err),
+        Err(why) => refuse_no_map(err, ov_mesh, why),
+    }
 }

@@ -183,7 +183,11 @@ pub fn generate_overlap<R: Threads, F: Files, O: Sink, E: Sink>(
     };
     let target = match mesh_of(alloc, files, b) {
         Ok(mesh) => mesh,
-        Err(why) => return refuse_mesh(err, b, why),
+        Err(why) => {
+            // This is cheaper to prove than what a way out lets go by itself.
+            drop(source);
+            return refuse_mesh(err, b, why);
+        }
     };
     write_pair(rt, alloc, source, target, workers, file, files, out, err)
 }

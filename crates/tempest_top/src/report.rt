@@ -69,22 +69,22 @@ fn report_line(alloc: Global, mesh: &Mesh, told: MeshReport) -> Result<String, N
 fn tell_report<R: Threads, O: Sink, E: Sink>(
     rt: &R,
     alloc: Global,
-    mesh: Mesh,
+    mesh: &Mesh,
     workers: u32,
     out: &mut O,
     err: &mut E,
 ) -> Status
     requires { (1 ≤ workers) × (workers ≤ 64) }
-    ensures comes { (files : FilesSeen) → Comes [] IsPiecesText None (IsOutcomeOfReport mesh)
+    ensures comes { (files : FilesSeen) → Comes [] IsPiecesText None (IsOutcomeOfReport mesh.now)
         (scene files (O.seen out.old) (E.seen err.old))
         (scene files (O.seen out.new) (E.seen err.new)) result }
     ensures no_line { result ≡ Status.Done → err.new ≡ err.old }
 {
-    let told = match report(rt, alloc, &mesh, workers) {
+    let told = match report(rt, alloc, mesh, workers) {
         Ok(told) => told,
         Err(fault) => return refuse_run(err, fault),
     };
-    let Ok(text) = report_line(alloc, &mesh, told) else {
+    let Ok(text) = report_line(alloc, mesh, told) else {
         return refuse_memory(err);
     };
     put_text_alone(out, err, text.as_bytes())
@@ -112,5 +112,7 @@ pub fn check_mesh<R: Threads, F: Files, O: Sink, E: Sink>(
         Ok(mesh) => mesh,
         Err(why) => return refuse_mesh(err, file, why),
     };
-    tell_report(rt, alloc, mesh, workers, out, err)
+    let status = tell_report(rt, alloc, &mesh, workers, out, err);
+    drop(mesh);
+    status
 }

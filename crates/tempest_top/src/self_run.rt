@@ -147,26 +147,28 @@ fn refuse_chain<E: Sink>(err: &mut E, fault: ChainFault) -> Status
 fn tell_chain<R: Threads, O: Sink, E: Sink>(
     rt: &R,
     alloc: Global,
-    source: Mesh,
-    target: Mesh,
+    source: &Mesh,
+    target: &Mesh,
     workers: u32,
     values: &[i32],
     out: &mut O,
     err: &mut E,
 ) -> Status
     requires workers { (1 ≤ workers) × (workers ≤ 64) }
-    requires values { length values.now ≡ length source.faces }
+    requires values { length values.now ≡ length source.now.faces }
     ensures comes { (files : FilesSeen) → Comes [] IsSelfRunText None
-        (IsOutcomeOfChain source target values.now)
+        (IsOutcomeOfChain source.now target.now values.now)
         (scene files (O.seen out.old) (E.seen err.old))
         (scene files (O.seen out.new) (E.seen err.new)) result }
     ensures no_line { result ≡ Status.Done → err.new ≡ err.old }
 {
-    let told = match chain(rt, alloc, &source, &target, workers, &OpenGate, values) {
+    let told = match chain(rt, alloc, source, target, workers, &OpenGate, values) {
         Ok(told) => told,
         Err(fault) => return refuse_chain(err, fault),
     };
-    let Ok(text) = chain_line(alloc, &source, &target, values, &told) else {
+    let line = chain_line(alloc, source, target, values, &told);
+    drop(told);
+    let Ok(text) = line else {
         return refuse_memory(err);
     };
     put_text_alone(out, err, text.as_bytes())
@@ -176,21 +178,22 @@ fn tell_chain<R: Threads, O: Sink, E: Sink>(
 fn run_chain<R: Threads, O: Sink, E: Sink>(
     rt: &R,
     alloc: Global,
-    source: Mesh,
-    target: Mesh,
+    source: &Mesh,
+    target: &Mesh,
     workers: u32,
     out: &mut O,
     err: &mut E,
 ) -> Status
     requires workers { (1 ≤ workers) × (workers ≤ 64) }
-    requires few { length source.faces ≤ 60000 }
+    requires few { length source.now.faces ≤ 60000 }
     ensures comes { (files : FilesSeen) → Comes [] IsSelfRunText None
-        (IsOutcomeOfChain source target (values_of_faces (length source.faces)))
+        (IsOutcomeOfChain source.now target.now
+        (values_of_faces (length source.now.faces)))
         (scene files (O.seen out.old) (E.seen err.old))
         (scene files (O.seen out.new) (E.seen err.new)) result }
     ensures no_line { result ≡ Status.Done → err.new ≡ err.old }
 {
-    let Ok(values) = values_of(alloc, face_count(&source)) else {
+    let Ok(values) = values_of(alloc, face_count(source)) else {
         return refuse_memory(err);
     };
     tell_chain(rt, alloc, source, target, workers, &values, out, err)
@@ -220,7 +223,14 @@ pub fn self_run<R: Threads, O: Sink, E: Sink>(
     };
     let target = match gen_rll::make(alloc, 4 * n, 2 * n) {
         Ok(mesh) => mesh,
-        Err(fault) => return refuse_made(err, fault),
+        Err(fault) => {
+            // This is cheaper to prove than what a way out lets go by itself.
+            drop(source);
+            return refuse_made(err, fault);
+        }
     };
-    run_chain(rt, alloc, source, target, workers, out, err)
+    let status = run_chain(rt, alloc, &source, &target, workers, out, err);
+    drop(source);
+    drop(target);
+    status
 }

@@ -27,9 +27,9 @@ returns-in-Err-mesh_of-clause-kept g c =
 pub returns-clause-kept : goal.returns-clause-kept
 returns-clause-kept g c =
     let before = scene (g.F.Files.seen c.args.files.now) (g.O.Sink.seen c.args.out.now) (g.E.Sink.seen c.args.err.now) in
-    let after = scene (g.F.Files.seen c.mesh_of-2.new.files) (g.O.Sink.seen c.tell_coverage.new.out) (g.E.Sink.seen c.tell_coverage.new.err) in
+    let after = scene (g.F.Files.seen c.mesh_of-2.new.files) (g.O.Sink.seen c.tell_coverage-status.new.out) (g.E.Sink.seen c.tell_coverage-status.new.err) in
     let first = c.in-Ok.ensures in
     let second = c.in-Ok-mesh_of.ensures in
     keeps (Some (Coverage c.args.a.now c.args.b.now)) before after _ refl
     (comes_both IsOutcomeOfCoverage NoText None c.args.a.now c.args.b.now before (g.F.Files.seen c.mesh_of.new.files) (g.F.Files.seen c.mesh_of-2.new.files) after c.in-Ok.mesh c.in-Ok-mesh_of.mesh _ first.mesh first.reads first.asked second.mesh second.reads second.asked
-    (c.tell_coverage.ensures.comes (g.F.Files.seen c.mesh_of-2.new.files)))
+    (c.tell_coverage-status.ensures.comes (g.F.Files.seen c.mesh_of-2.new.files)))

@@ -15,5 +15,5 @@ returns-clause-comes g c = λ files.
     let after = scene files (g.O.Sink.seen c.put_text_alone.new.out) (g.E.Sink.seen c.put_text_alone.new.err) in
     let (count, right, spelled) = c.in-Ok.ensures in
     let text = c.as_bytes.ensures.value ∙ spelled in
-    comes_done NoText None (IsOutcomeOfCoverage c.args.a c.args.b) before after (text_alone c.as_bytes.result.now files.folder) _
+    comes_done NoText None (IsOutcomeOfCoverage c.args.a.now c.args.b.now) before after (text_alone c.as_bytes.result.now files.folder) _
     (count, right, ap (λ (t : List ℕ). text_alone t files.folder) text) refl (λ file e. cc) refl (c.put_text_alone.ensures.ends files)

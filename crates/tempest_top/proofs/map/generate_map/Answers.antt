@@ -41,11 +41,11 @@ returns-in-Err-mesh_of-clause-kept g c =
     (record { holds = first.mesh; reads = first.reads; asked = first.asked })
     (record { refused = load.refusal; reads = load.reads; out = refl; answer = refuse.status; line = refuse.line }))
 
-pub returns-in-Err-map_of_file-clause-kept : goal.returns-in-Err-map_of_file-clause-kept
-returns-in-Err-map_of_file-clause-kept g c =
+pub returns-in-Err-made-clause-kept : goal.returns-in-Err-made-clause-kept
+returns-in-Err-made-clause-kept g c =
     let before = scene (g.F.Files.seen c.args.files.now) (g.O.Sink.seen c.args.out.now) (g.E.Sink.seen c.args.err.now) in
     let last = g.F.Files.seen c.mesh_of-2.new.files in
-    let end = g.F.Files.seen c.map_of_file.new.files in
+    let end = g.F.Files.seen c.map_of_file-made.new.files in
     let after = scene end (g.O.Sink.seen c.args.out.now) (g.E.Sink.seen c.refuse_no_map.new.err) in
     let a = c.args.a.now in
     let b = c.args.b.now in
@@ -53,11 +53,11 @@ returns-in-Err-map_of_file-clause-kept g c =
     let file = c.args.file.now in
     let source = c.in-Ok.mesh in
     let target = c.in-Ok-mesh_of.mesh in
-    let why = c.in-Err-map_of_file.why in
+    let why = c.in-Err-made.why in
     let name : c.as_str.result.now ≡ ov = search rules in
     let first = c.in-Ok.ensures in
     let second = c.in-Ok-mesh_of.ensures in
-    let third = c.in-Err-map_of_file.ensures in
+    let third = c.in-Err-made.ensures in
     let found : IsNoMap last end ov source target why = subst (λ (n : List ℕ). IsNoMap last end n source target why) name third.why in
     let asked : AskedUnlessRefused last end ov why = subst (λ (n : List ℕ). AskedUnlessRefused last end n why) name third.asked in
     keeps (Some (OfflineMap a b ov file)) before after _ refl
@@ -66,11 +66,11 @@ returns-in-Err-map_of_file-clause-kept g c =
     (record { holds = second.mesh; reads = second.reads; asked = second.asked })
     found third.reads asked refl c.refuse_no_map.ensures.status c.refuse_no_map.ensures.line)
 
-pub returns-clause-kept : goal.returns-clause-kept
-returns-clause-kept g c =
+pub returns-in-Ok-made-clause-kept : goal.returns-in-Ok-made-clause-kept
+returns-in-Ok-made-clause-kept g c =
     let before = scene (g.F.Files.seen c.args.files.now) (g.O.Sink.seen c.args.out.now) (g.E.Sink.seen c.args.err.now) in
     let last = g.F.Files.seen c.mesh_of-2.new.files in
-    let end = g.F.Files.seen c.map_of_file.new.files in
+    let end = g.F.Files.seen c.map_of_file-made.new.files in
     let after = scene (g.F.Files.seen c.write_map.new.files) (g.O.Sink.seen c.write_map.new.out) (g.E.Sink.seen c.write_map.new.err) in
     let a = c.args.a.now in
     let b = c.args.b.now in
@@ -78,11 +78,11 @@ returns-clause-kept g c =
     let file = c.args.file.now in
     let source = c.in-Ok.mesh in
     let target = c.in-Ok-mesh_of.mesh in
-    let made = c.in-Ok-map_of_file.map in
+    let made = c.in-Ok-made.map in
     let name : c.as_str.result.now ≡ ov = search rules in
     let first = c.in-Ok.ensures in
     let second = c.in-Ok-mesh_of.ensures in
-    let third = c.in-Ok-map_of_file.ensures in
+    let third = c.in-Ok-made.ensures in
     let found : IsMapOfFile last.folder ov source target made = subst (λ (n : List ℕ). IsMapOfFile last.folder n source target made) name third.map in
     let asked : Asked last end ov = subst (Asked last end) name third.asked in
     keeps (Some (OfflineMap a b ov file)) before after _ refl

@@ -16,8 +16,8 @@ returns-in-Err-clause-why g c =
     counts_fault folder c.args.name.now a b reader fault c.requires.read
     (subst (λ (n : ℕ). IsFaultOfCounts a b reader.vars.faces_a n fault) target (subst (λ (n : ℕ). IsFaultOfCounts a b n c.target_faces-faces_b.result fault) source c.in-Err.ensures.fault))
 
-pub returns-in-Err-put_pieces-clause-why : goal.returns-in-Err-put_pieces-clause-why
-returns-in-Err-put_pieces-clause-why g c =
+pub returns-in-Err-put-clause-why : goal.returns-in-Err-put-clause-why
+returns-in-Err-put-clause-why g c =
     let folder = (g.F.Files.seen c.args.files.now).folder in
     let reader = c.args.reader in
     let a = c.args.a.now in
@@ -26,7 +26,7 @@ returns-in-Err-put_pieces-clause-why g c =
     let target : c.target_faces-faces_b.result ≡ reader.vars.faces_b = search rules in
     let begun : IsMaking folder c.args.name.now a b reader c.in-Ok.maker =
     begun_making folder c.args.name.now a b reader c.in-Ok.maker c.requires.read (sym source ∙ c.in-Ok.ensures.source) (sym target ∙ c.in-Ok.ensures.target) c.in-Ok.ensures.maker in
-    c.in-Err-put_pieces.ensures.why a b begun
+    c.in-Err-put.ensures.why a b begun
 
 pub finish-requires : goal.finish-requires
 finish-requires g c =
@@ -38,7 +38,7 @@ finish-requires g c =
     let target : c.target_faces-faces_b.result ≡ reader.vars.faces_b = search rules in
     let begun : IsMaking folder c.args.name.now a b reader c.in-Ok.maker =
     begun_making folder c.args.name.now a b reader c.in-Ok.maker c.requires.read (sym source ∙ c.in-Ok.ensures.source) (sym target ∙ c.in-Ok.ensures.target) c.in-Ok.ensures.maker in
-    let whole : IsWhole folder c.args.name.now a b c.put_pieces.new.maker = c.in-Ok-put_pieces.ensures.whole a b begun in
+    let whole : IsWhole folder c.args.name.now a b c.put_pieces-put.new.maker = c.in-Ok-put.ensures.whole a b begun in
     (whole.overlap, whole.made)
 
 pub returns-in-Ok-finish-clause-map : goal.returns-in-Ok-finish-clause-map
@@ -51,8 +51,8 @@ returns-in-Ok-finish-clause-map g c =
     let target : c.target_faces-faces_b.result ≡ reader.vars.faces_b = search rules in
     let begun : IsMaking folder c.args.name.now a b reader c.in-Ok.maker =
     begun_making folder c.args.name.now a b reader c.in-Ok.maker c.requires.read (sym source ∙ c.in-Ok.ensures.source) (sym target ∙ c.in-Ok.ensures.target) c.in-Ok.ensures.maker in
-    let whole : IsWhole folder c.args.name.now a b c.put_pieces.new.maker = c.in-Ok-put_pieces.ensures.whole a b begun in
-    whole_map folder c.args.name.now a b c.put_pieces.new.maker c.in-Ok-finish.map whole (c.in-Ok-finish.ensures.accepted whole.overlap whole.made whole.right) (c.in-Ok-finish.ensures.map whole.overlap whole.made)
+    let whole : IsWhole folder c.args.name.now a b c.put_pieces-put.new.maker = c.in-Ok-put.ensures.whole a b begun in
+    whole_map folder c.args.name.now a b c.put_pieces-put.new.maker c.in-Ok-finish.map whole (c.in-Ok-finish.ensures.accepted whole.overlap whole.made whole.right) (c.in-Ok-finish.ensures.map whole.overlap whole.made)
 
 pub returns-in-Err-finish-clause-why : goal.returns-in-Err-finish-clause-why
 returns-in-Err-finish-clause-why g c =
@@ -64,5 +64,5 @@ returns-in-Err-finish-clause-why g c =
     let target : c.target_faces-faces_b.result ≡ reader.vars.faces_b = search rules in
     let begun : IsMaking folder c.args.name.now a b reader c.in-Ok.maker =
     begun_making folder c.args.name.now a b reader c.in-Ok.maker c.requires.read (sym source ∙ c.in-Ok.ensures.source) (sym target ∙ c.in-Ok.ensures.target) c.in-Ok.ensures.maker in
-    let whole : IsWhole folder c.args.name.now a b c.put_pieces.new.maker = c.in-Ok-put_pieces.ensures.whole a b begun in
-    whole_fault folder c.args.name.now a b c.put_pieces.new.maker c.in-Err-finish.fault whole (c.in-Err-finish.ensures.fault whole.overlap whole.made whole.right)
+    let whole : IsWhole folder c.args.name.now a b c.put_pieces-put.new.maker = c.in-Ok-put.ensures.whole a b begun in
+    whole_fault folder c.args.name.now a b c.put_pieces-put.new.maker c.in-Err-finish.fault whole (c.in-Err-finish.ensures.fault whole.overlap whole.made whole.right)

@@ -23,9 +23,9 @@ pub returns-clause-kept : goal.returns-clause-kept
 returns-clause-kept g c =
     let before = scene (g.F.Files.seen c.args.files.now) (g.O.Sink.seen c.args.out.now) (g.E.Sink.seen c.args.err.now) in
     let mid = g.F.Files.seen c.mesh_of.new.files in
-    let after = scene mid (g.O.Sink.seen c.tell_report.new.out) (g.E.Sink.seen c.tell_report.new.err) in
+    let after = scene mid (g.O.Sink.seen c.tell_report-status.new.out) (g.E.Sink.seen c.tell_report-status.new.err) in
     let name = c.args.file.now in
     let load = c.in-Ok.ensures in
     keeps (Some (Check name c.args.workers)) before after _ refl
     (comes_behind mesh_words name (λ (mesh : RawMesh). IsOutcomeOfReport mesh) (MeshFile name) [] IsPiecesText None before mid after c.in-Ok.mesh _ (mesh_input name) load.mesh load.reads load.asked
-    (c.tell_report.ensures.comes mid))
+    (c.tell_report-status.ensures.comes mid))

@@ -28,7 +28,7 @@ comes_many mesh before after NoRunMemory status refused files out is put = comes
 
 pub returns-in-Err-clause-comes : goal.returns-in-Err-clause-comes
 returns-in-Err-clause-comes g c = λ files.
-    comes_many c.args.mesh (scene files (g.O.Sink.seen c.args.out.now) (g.E.Sink.seen c.args.err.now)) (scene files (g.O.Sink.seen c.args.out.now) (g.E.Sink.seen c.refuse_run.new.err)) c.in-Err.fault _ c.in-Err.ensures.refusal refl refl c.refuse_run.ensures.status c.refuse_run.ensures.line
+    comes_many c.args.mesh.now (scene files (g.O.Sink.seen c.args.out.now) (g.E.Sink.seen c.args.err.now)) (scene files (g.O.Sink.seen c.args.out.now) (g.E.Sink.seen c.refuse_run.new.err)) c.in-Err.fault _ c.in-Err.ensures.refusal refl refl c.refuse_run.ensures.status c.refuse_run.ensures.line
 
 pub returns-in_default-clause-comes : goal.returns-in_default-clause-comes
 returns-in_default-clause-comes g c = λ files.
@@ -39,7 +39,7 @@ returns-clause-comes g c = λ files.
     let before = scene files (g.O.Sink.seen c.args.out.now) (g.E.Sink.seen c.args.err.now) in
     let after = scene files (g.O.Sink.seen c.put_text_alone.new.out) (g.E.Sink.seen c.put_text_alone.new.err) in
     let past = c.in-Ok.ensures.past in
-    let few : (n : ℕ) → IsPairCount c.args.mesh c.args.mesh n → n ≤ 8388608 = λ n count. elim (few_or_many n) [ inl l ↦ l | inr many ↦ absurd (let e = past n count many in cc) ] in
+    let few : (n : ℕ) → IsPairCount c.args.mesh.now c.args.mesh.now n → n ≤ 8388608 = λ n count. elim (few_or_many n) [ inl l ↦ l | inr many ↦ absurd (let e = past n count many in cc) ] in
     let text = c.as_bytes.ensures.value ∙ c.in-Ok-report_line.ensures in
-    comes_done IsPiecesText None (IsOutcomeOfReport c.args.mesh) before after (text_alone c.as_bytes.result.now files.folder) _
+    comes_done IsPiecesText None (IsOutcomeOfReport c.args.mesh.now) before after (text_alone c.as_bytes.result.now files.folder) _
     (inr (few, (c.in-Ok.told, c.in-Ok.ensures.report, ap (λ (t : List ℕ). text_alone t files.folder) text))) refl (λ file e. cc) refl (c.put_text_alone.ensures.ends files)

@@ -15,5 +15,5 @@ pub returns-clause-comes : goal.returns-clause-comes
 returns-clause-comes g c = λ files.
     let before = scene files (g.O.Sink.seen c.args.out.now) (g.E.Sink.seen c.args.err.now) in
     let after = scene files (g.O.Sink.seen c.tell_chain.new.out) (g.E.Sink.seen c.tell_chain.new.err) in
-    let values : c.deref.result.now ≡ values_of_faces (length c.args.source.faces) = c.deref.ensures.value ∙ c.in-Ok.ensures ∙ ap values_of_faces c.face_count.ensures.count in
-    subst (λ (xs : List ℤ). Comes [] IsSelfRunText None (IsOutcomeOfChain c.args.source c.args.target xs) before after c.tell_chain.result) values (c.tell_chain.ensures.comes files)
+    let values : c.deref.result.now ≡ values_of_faces (length c.args.source.now.faces) = c.deref.ensures.value ∙ c.in-Ok.ensures ∙ ap values_of_faces c.face_count.ensures.count in
+    subst (λ (xs : List ℤ). Comes [] IsSelfRunText None (IsOutcomeOfChain c.args.source.now c.args.target.now xs) before after c.tell_chain.result) values (c.tell_chain.ensures.comes files)

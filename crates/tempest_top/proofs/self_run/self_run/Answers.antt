@@ -29,6 +29,6 @@ pub returns-clause-kept : goal.returns-clause-kept
 returns-clause-kept g c = λ files.
     let n = c.args.n in
     let before = scene files (g.O.Sink.seen c.args.out.now) (g.E.Sink.seen c.args.err.now) in
-    let after = scene files (g.O.Sink.seen c.run_chain.new.out) (g.E.Sink.seen c.run_chain.new.err) in
+    let after = scene files (g.O.Sink.seen c.run_chain-status.new.out) (g.E.Sink.seen c.run_chain-status.new.err) in
     keeps (Some (SelfRun n c.args.workers)) before after _ refl
-    (comes_run c.in-Ok.source c.in-Ok-make.mesh (cubed_sphere n) (latitude_longitude (4 * n) (2 * n)) before after _ c.in-Ok.ensures.mesh c.in-Ok-make.ensures.mesh c.in-Ok-make.ensures.accepted (c.run_chain.ensures.comes files))
+    (comes_run c.in-Ok.source c.in-Ok-make.mesh (cubed_sphere n) (latitude_longitude (4 * n) (2 * n)) before after _ c.in-Ok.ensures.mesh c.in-Ok-make.ensures.mesh c.in-Ok-make.ensures.accepted (c.run_chain-status.ensures.comes files))
