@@ -5,3 +5,4 @@ pub mod Vsizes
 pub mod Places
 pub mod Standing
 pub mod Appending
+pub mod Behind
