@@ -1,4 +1,5 @@
 mod Takes
+mod Rows
 mod Rounded
 mod Table
 mod Search

@@ -13,7 +13,3 @@ nearest_at_most n d b p q =
 pub rounded_at_most : (x : ℤ) (d b : ℕ) → 0 < d → unsigned_abs x ≤ b * d → unsigned_abs (rounded x d) ≤ b
 rounded_at_most (pos n) d b p q = nearest_at_most n d b p q
 rounded_at_most (negsuc n) d b p q = omega (arith, ints, nearest_at_most (suc n) d b p (omega (arith, q)))
-
--- a value that is a rounded quotient, by what its parts are
-pub quotient_is : (r x y d e : ℤ) → r ≡ rounded x (unsigned_abs d) → x ≡ y → d ≡ e → r ≡ rounded y (unsigned_abs e)
-quotient_is r x y d e h f g = rw (← f, ← g) h

@@ -24,14 +24,14 @@ fn component(nodes: &[[i32; 3]], face: &[i32], s: usize, k: usize) -> i32
     nodes[number - 1][k]
 }
 
-fn sum(x: i32, y: i32, z: i32) -> i64
+fn sum(x: i32, y: i32, z: i32) -> i32
     requires x_size { unsigned_abs x ≤ 131072 }
     requires y_size { unsigned_abs y ≤ 131072 }
     requires z_size { unsigned_abs z ≤ 131072 }
     ensures value { result ≡ x +ℤ y +ℤ z }
     ensures size { unsigned_abs result ≤ 393216 }
 {
-    i64::from(x) + i64::from(y) + i64::from(z)
+    x + y + z
 }
 
 // Half the sum of three coordinates.

@@ -1,36 +1,35 @@
 // The points of the base triangles.
-ghost use Rattle.std.specs.Prelude.{◌≡◌, ◌≤◌, ◌<◌, ◌+◌, ◌-◌, ◌*◌, ◌^◌, ◌++◌, pos, ◌+ℤ◌, ◌*ℤ◌, ◌<ℤ◌, All, IfOk, OnOk, unsigned_abs};
+ghost use Rattle.std.specs.Prelude.{◌≡◌, ◌≤◌, ◌<◌, ◌+◌, ◌-◌, ◌*◌, ◌++◌, pos, ◌+ℤ◌, ◌*ℤ◌, All, IfOk, OnOk, unsigned_abs};
 ghost use Rattle.vec_exact.specs.Rounding.{rounded};
 ghost use Rattle.gen_ico.specs.Icosahedron.{IsBaseNumber};
 ghost use Rattle.gen_ico.specs.Icosahedral.{between, point, point_component, points_of, row_points, triangle_points};
 
 use crate::icosahedron::{base_triangle, corner_component};
 use std::alloc::{AllocError, Global};
-use vec_exact::round_div;
 
-// A quotient that is at most 262,144 in size.
-pub fn quotient(x: i64, d: i64) -> i32
-    requires positive { pos 0 <ℤ d }
-    requires large { unsigned_abs d ≤ 2 ^ 43 }
-    requires size { unsigned_abs x ≤ 262144 * unsigned_abs d }
-    ensures value { result ≡ rounded x (unsigned_abs d) }
-    ensures small { unsigned_abs result ≤ 262144 }
+// `x / d` rounded to the nearest whole number, halves away from zero, where 32 bits suffice.
+pub fn quotient(x: i32, d: u32) -> i32
+    requires least { 1 ≤ d }
+    requires greatest { d ≤ 200 }
+    requires size { unsigned_abs x ≤ 262144 * d }
+    ensures { result ≡ rounded x d }
 {
-    round_div(i128::from(x), i128::from(d)) as i32
+    let whole = ((2 * x.unsigned_abs() + d) / (2 * d)) as i32;
+    if x < 0 { -whole } else { whole }
 }
 
 // A coordinate so many times.
-fn times(a: i32, k: u32) -> i64
+fn times(a: i32, k: u32) -> i32
     requires coordinate { unsigned_abs a ≤ 131072 }
     requires count { k ≤ 200 }
     ensures value { result ≡ a *ℤ pos k }
     ensures size { unsigned_abs result ≤ 131072 * k }
 {
-    i64::from(a) * i64::from(k)
+    a * k as i32
 }
 
 // The coordinates of three corners, each so many times; n times in all.
-fn weighted(n: u32, i: u32, j: u32, a: i32, b: i32, c: i32) -> i64
+fn weighted(n: u32, i: u32, j: u32, a: i32, b: i32, c: i32) -> i32
     requires greatest { n ≤ 200 }
     requires place { i + j ≤ n }
     requires a_size { unsigned_abs a ≤ 131072 }
@@ -52,7 +51,7 @@ fn between(n: u32, i: u32, j: u32, a: i32, b: i32, c: i32) -> i32
     requires c_size { unsigned_abs c ≤ 131072 }
     ensures { result ≡ between n i j a b c }
 {
-    quotient(weighted(n, i, j, a, b, c), i64::from(n))
+    quotient(weighted(n, i, j, a, b, c), n)
 }
 
 fn point_component(n: u32, triangle: [usize; 3], i: u32, j: u32, k: usize) -> i32

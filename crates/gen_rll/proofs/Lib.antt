@@ -1,3 +1,3 @@
 mod Ranges
-mod Rounded
+mod Rings
 pub mod Counts

@@ -1,5 +1,5 @@
 -- Lists over a range of numbers: one more, and how long they are.
-use Rattle.std.proofs.Common.{◌≡◌, ◌+◌, ◌*◌, ℕ, zero, suc, List, [], ◌∷◌, ◌++◌, sym, ap, ◌∙◌, append_assoc, append-nil, map, arith, length, length-append}
+use Rattle.std.proofs.Common.{◌≡◌, ◌+◌, ◌*◌, ℕ, zero, suc, List, [], ◌∷◌, ◌++◌, refl, sym, ap, ◌∙◌, append_assoc, append-nil, map, arith, length, length-append}
 use Rattle.std.proofs.lemmas.List.FromFn.{map-range_with_len_more}
 use Rattle.std.specs.List.{flat_map, range_with_len}
 
@@ -21,3 +21,8 @@ map_behind out f k = append_assoc out (map f (range_with_len 0 k)) (f k ∷ []) 
 pub length_even : {A : Type 0} (f : ℕ → List A) (m a k : ℕ) → ((i : ℕ) → length (f i) ≡ m) → length (flat_map f (range_with_len a k)) ≡ k * m
 length_even f m a zero h = omega arith
 length_even f m a (suc k) h = omega (arith, length-append (f a) (flat_map f (range_with_len (a + 1) k)), h a, length_even f m (a + 1) k h)
+
+-- what is made of items that were made of others
+pub map_of_map : {A B C : Type 0} (g : B → C) (f : A → B) (xs : List A) → map g (map f xs) ≡ map (λ x. g (f x)) xs
+map_of_map g f [] = refl
+map_of_map g f (x ∷ xs) = ap (λ l. g (f x) ∷ l) (map_of_map g f xs)

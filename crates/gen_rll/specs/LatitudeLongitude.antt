@@ -24,6 +24,17 @@ point latitude longitude =
 abbrev pub ring_node : ℕ → ℕ → ℕ → ℕ → List ℤ
 ring_node lon lat j k = point (trig_of (pos (2 * j) -ℤ pos lat) (4 * lat)) (trig_of (pos k) lon)
 
+-- cosine and sine of the latitude of ring j
+abbrev pub latitude_at : ℕ → ℕ → ℤ × ℤ
+latitude_at lat j = trig_of (pos (2 * j) -ℤ pos lat) (4 * lat)
+
+-- cosine and sine of longitude k, and of all longitudes
+abbrev pub longitude_at : ℕ → ℕ → ℤ × ℤ
+longitude_at lon k = trig_of (pos k) lon
+
+abbrev pub longitudes_of : ℕ → List (ℤ × ℤ)
+longitudes_of lon = map (longitude_at lon) (range_with_len 0 lon)
+
 abbrev pub ring_nodes : ℕ → ℕ → ℕ → List (List ℤ)
 ring_nodes lon lat j = map (ring_node lon lat j) (range_with_len 0 lon)
 

@@ -1,6 +1,7 @@
-use Rattle.std.proofs.Common.{rules}
-use Rattle.vec_exact.proofs.Ranges.{flat_behind, flat_range_more}
+use Rattle.std.proofs.Common.{◌∙◌}
+use Rattle.gen_ico.proofs.Rows.{neighbours}
 use Rattle.gen_ico.proofs.faces.put_triangle.Goals as goal
 
-pub loop-i-preserved : goal.loop-i-preserved
-loop-i-preserved c = search (rules, flat_behind, flat_range_more)
+pub put_row-requires : goal.put_row-requires
+put_row-requires c =
+    record { lens = neighbours c.args.nodes.now c.args.n c.args.triangle c.loop-i.i _ _ c.loop-i-test.true (c.deref.ensures.value ∙ c.loop-i.invariant.1) (c.deref-in-loop-i.ensures.value ∙ c.in_ok-next.ensures) }

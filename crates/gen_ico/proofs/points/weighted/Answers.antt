@@ -1,17 +1,17 @@
-use Rattle.std.proofs.Common.{◌≡◌, ◌≤◌, ◌∙◌, ◌-◌, ◌*◌, ◌+◌, ℕ, ℤ, pos, ◌+ℤ◌, ◌*ℤ◌, unsigned_abs, refl, sym, subst, ap, arith, to_z, of_z, w32, w64}
+use Rattle.std.proofs.Common.{◌≡◌, ◌≤◌, ◌∙◌, ◌-◌, ◌*◌, ◌+◌, ℕ, ℤ, pos, ◌+ℤ◌, ◌*ℤ◌, unsigned_abs, refl, sym, subst, ap, arith, to_z, of_z, w32}
 use Rattle.std.proofs.lemmas.Int.{ints}
 use Rattle.gen_ico.proofs.points.weighted.Goals as goal
 
--- the sum of three small numbers as 64 bits hold it
+-- the sum of three small numbers as 32 bits hold it
 abbrev held : ℤ → ℤ → ℤ → ℤ
-held x y z = to_z w64 (of_z w64 (to_z w64 (of_z w64 (to_z w64 (of_z w64 x) +ℤ to_z w64 (of_z w64 y))) +ℤ to_z w64 (of_z w64 z)))
+held x y z = to_z w32 (of_z w32 (to_z w32 (of_z w32 (to_z w32 (of_z w32 x) +ℤ to_z w32 (of_z w32 y))) +ℤ to_z w32 (of_z w32 z)))
 
 held_is : (x y z : ℤ) (p q r n : ℕ) → p + q + r ≤ n → n ≤ 200 → unsigned_abs x ≤ 131072 * p → unsigned_abs y ≤ 131072 * q → unsigned_abs z ≤ 131072 * r → held x y z ≡ x +ℤ y +ℤ z
 held_is x y z p q r n all few xs ys zs =
-    let two : to_z w64 (of_z w64 (to_z w64 (of_z w64 x) +ℤ to_z w64 (of_z w64 y))) ≡ x +ℤ y = omega (arith, ints, all, few, xs, ys) in
-    let third : to_z w64 (of_z w64 z) ≡ z = omega (arith, ints, all, few, zs) in
-    let three : to_z w64 (of_z w64 (x +ℤ y +ℤ z)) ≡ x +ℤ y +ℤ z = omega (arith, ints, all, few, xs, ys, zs) in
-    ap (λ (s : ℤ). to_z w64 (of_z w64 (s +ℤ to_z w64 (of_z w64 z)))) two ∙ ap (λ (s : ℤ). to_z w64 (of_z w64 (x +ℤ y +ℤ s))) third ∙ three
+    let two : to_z w32 (of_z w32 (to_z w32 (of_z w32 x) +ℤ to_z w32 (of_z w32 y))) ≡ x +ℤ y = omega (arith, ints, all, few, xs, ys) in
+    let third : to_z w32 (of_z w32 z) ≡ z = omega (arith, ints, all, few, zs) in
+    let three : to_z w32 (of_z w32 (x +ℤ y +ℤ z)) ≡ x +ℤ y +ℤ z = omega (arith, ints, all, few, xs, ys, zs) in
+    ap (λ (s : ℤ). to_z w32 (of_z w32 (s +ℤ to_z w32 (of_z w32 z)))) two ∙ ap (λ (s : ℤ). to_z w32 (of_z w32 (x +ℤ y +ℤ s))) third ∙ three
 
 sum_small : (x y z : ℤ) (p q r n : ℕ) → p + q + r ≤ n → unsigned_abs x ≤ 131072 * p → unsigned_abs y ≤ 131072 * q → unsigned_abs z ≤ 131072 * r → unsigned_abs (x +ℤ y +ℤ z) ≤ 131072 * n
 sum_small x y z p q r n all xs ys zs = omega (arith, ints, all, xs, ys, zs)

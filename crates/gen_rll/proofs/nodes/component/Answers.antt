@@ -1,27 +1,48 @@
-use Rattle.std.proofs.Common.{◌≡◌, ◌≤◌, ◌∙◌, unsigned_abs, subst, sym, arith, to_z, of_z, w32}
-use Rattle.std.specs.Int.{w128}
+use Rattle.std.proofs.Common.{◌≡◌, ◌∙◌, ◌+◌, ◌*◌, ◌<◌, ◌≤◌, ℕ, ℤ, pos, negsuc, suc, ◌-ℤ◌, neg_ℤ, ◌<ℤ◌, ◌≤ℤ◌, unsigned_abs, ap, arith, to_z, of_z, w32}
 use Rattle.std.proofs.lemmas.Int.{ints}
-use Rattle.vec_exact.specs.Rounding.{rounded}
-use Rattle.gen_rll.proofs.Rounded.{quotient_is, rounded_at_most}
+use Rattle.std.proofs.lemmas.Nat.{div_below}
+use Rattle.vec_exact.specs.Rounding.{nearest, rounded}
 use Rattle.gen_rll.proofs.nodes.component.Goals as goal
 
-pub overflow_cast-result : goal.overflow_cast-result
-overflow_cast-result c =
-    let a = c.args in
-    let r = c.round_div.result in
-    let x : to_z w128 (of_z w128 c.from.result) ≡ a.x = omega (arith, ints, c.from.ensures) in
-    let d : to_z w128 (of_z w128 c.from-2.result) ≡ a.d = omega (arith, ints, c.from-2.ensures) in
-    let is : r ≡ rounded a.x (unsigned_abs a.d) = quotient_is r (to_z w128 (of_z w128 c.from.result)) a.x (to_z w128 (of_z w128 c.from-2.result)) a.d c.round_div.ensures.value x d in
-    let small : unsigned_abs r ≤ 131072 = subst (λ z. unsigned_abs z ≤ 131072) (sym is) (rounded_at_most a.x (unsigned_abs a.d) 131072 (omega (arith, ints)) c.requires.size) in
-    omega (arith, ints, small)
+nearest_at_most : (n d b : ℕ) → 0 < d → n ≤ b * d → nearest n d ≤ b
+nearest_at_most n d b p q =
+    let room : 2 * n + d < (b + 1) * (2 * d) = omega (arith, q) in
+    let below : nearest n d < b + 1 = div_below (2 * n + d) (2 * d) (b + 1) (omega arith) room in
+    omega (arith, below)
 
-pub returns : goal.returns
-returns c =
+below_zero : (x : ℤ) (s d : ℕ) → s ≡ unsigned_abs x → x <ℤ pos 0 → pos 0 -ℤ pos (nearest s d) ≡ rounded x d
+below_zero (pos n) s d is lt = absurd (omega (arith, ints, lt))
+below_zero (negsuc n) s d is lt =
+    let size : s ≡ suc n = is in
+    ap (λ (m : ℕ). pos 0 -ℤ pos (nearest m d)) size ∙ minus (nearest (suc n) d)
+  where
+    minus : (q : ℕ) → pos 0 -ℤ pos q ≡ neg_ℤ (pos q)
+    minus q = omega (arith, ints)
+
+not_below : (x : ℤ) (s d : ℕ) → s ≡ unsigned_abs x → pos 0 ≤ℤ x → pos (nearest s d) ≡ rounded x d
+not_below (pos n) s d is le =
+    let size : s ≡ n = is in
+    ap (λ (m : ℕ). pos (nearest m d)) size
+not_below (negsuc n) s d is le = absurd (omega (arith, ints, le))
+
+held_below : (q : ℕ) → q ≤ 524288 → to_z w32 (of_z w32 (pos 0 -ℤ to_z w32 q)) ≡ pos 0 -ℤ pos q
+held_below q few = omega (arith, ints, few)
+
+held : (q : ℕ) → q ≤ 524288 → to_z w32 q ≡ pos q
+held q few = omega (arith, ints, few)
+
+pub returns-then-x-lt0 : goal.returns-then-x-lt0
+returns-then-x-lt0 c =
     let a = c.args in
-    let r = c.round_div.result in
-    let x : to_z w128 (of_z w128 c.from.result) ≡ a.x = omega (arith, ints, c.from.ensures) in
-    let d : to_z w128 (of_z w128 c.from-2.result) ≡ a.d = omega (arith, ints, c.from-2.ensures) in
-    let is : r ≡ rounded a.x (unsigned_abs a.d) = quotient_is r (to_z w128 (of_z w128 c.from.result)) a.x (to_z w128 (of_z w128 c.from-2.result)) a.d c.round_div.ensures.value x d in
-    let small : unsigned_abs r ≤ 131072 = subst (λ z. unsigned_abs z ≤ 131072) (sym is) (rounded_at_most a.x (unsigned_abs a.d) 131072 (omega (arith, ints)) c.requires.size) in
-    let back : to_z w32 (of_z w32 (to_z w128 (of_z w128 r))) ≡ r = omega (arith, ints, small) in
-    record { value = back ∙ is; small = subst (λ z. unsigned_abs z ≤ 131072) (sym back) small }
+    let s = c.unsigned_abs.result in
+    let is : s ≡ unsigned_abs a.x = omega (arith, ints, c.requires.size, c.requires.greatest, c.unsigned_abs.ensures.value) in
+    let few : nearest s a.d ≤ 524288 = nearest_at_most s a.d 524288 (omega (arith, c.requires.least)) (omega (arith, is, c.requires.size)) in
+    held_below (nearest s a.d) few ∙ below_zero a.x s a.d is (omega (arith, ints, c.requires.size, c.requires.greatest, c.if-x-lt0.true))
+
+pub returns-else-x-lt0 : goal.returns-else-x-lt0
+returns-else-x-lt0 c =
+    let a = c.args in
+    let s = c.unsigned_abs.result in
+    let is : s ≡ unsigned_abs a.x = omega (arith, ints, c.requires.size, c.requires.greatest, c.unsigned_abs.ensures.value) in
+    let few : nearest s a.d ≤ 524288 = nearest_at_most s a.d 524288 (omega (arith, c.requires.least)) (omega (arith, is, c.requires.size)) in
+    held (nearest s a.d) few ∙ not_below a.x s a.d is (omega (arith, ints, c.requires.size, c.requires.greatest, c.if-x-lt0.false))
