@@ -19,3 +19,4 @@ pub mod FoundColumns
 pub mod FirstNot
 pub mod GoodPairs
 pub mod DocSums
+pub mod Components
