@@ -17,8 +17,8 @@ use map_rows::{
 use std::alloc::Global;
 use vec_exact::{Ints, Longs};
 
-// What the target with these rows and this area gets in the slice whose values begin at `first`.
-fn target_share(rows: &[MapRow], divisor: Divisor, first: usize, values: &[i32]) -> Share
+/// What the target with these rows and this area gets in the slice whose values begin at `first`.
+pub fn target_share(rows: &[MapRow], divisor: Divisor, first: usize, values: &[i32]) -> Share
     requires count { length rows.now ≤ 8388608 }
     requires measures { All HasMeasure rows.now }
     requires values { All (HasValue values.now first) rows.now }

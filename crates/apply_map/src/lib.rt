@@ -5,9 +5,11 @@ mod application;
 mod fields;
 mod fill;
 mod masses;
+mod rests;
 mod sums;
 
 pub use application::apply;
 pub use fields::{ApplyFault, Field};
 pub use fill::fill_at;
 pub use masses::{mass_of_slice, source_mass, target_mass};
+pub use rests::put_rests;

@@ -8,7 +8,7 @@ mod frame;
 mod reading;
 mod shape;
 
-pub use document::{field_doc, masked_field_doc};
+pub use document::{field_doc, field_frame_doc, masked_field_doc};
 use exodus_mesh::NameFault;
 pub use fill::fill_value;
 pub use finding::find_field;

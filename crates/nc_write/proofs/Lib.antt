@@ -6,3 +6,4 @@ pub mod Places
 pub mod Standing
 pub mod Appending
 pub mod Behind
+pub mod Made

@@ -3,3 +3,4 @@ pub mod Widths
 pub mod Extents
 pub mod File
 pub mod Form
+pub mod Made

@@ -1,14 +1,16 @@
 // The data: values, and the records that they stand in. They are spelled part by part into a buffer
 // that is used again, and each part is written before the next is spelled.
-ghost use Rattle.std.specs.Prelude.{◌≡◌, ◌<◌, ◌≤◌, ◌*◌, ◌+◌, ◌-◌, ◌++◌, length, replicate, slice_range, All, OnOk};
+ghost use Rattle.std.specs.Prelude.{◌≡◌, ◌<◌, ◌≤◌, ◌*◌, ◌+◌, ◌-◌, ◌++◌, ℤ, List, length, replicate, slice_range, All, OnOk};
 ghost use Rattle.std.specs.List.{flat_map, range_with_len};
 ghost use Rattle.std.specs.Io.KnownBytes.{Appends};
 ghost use Rattle.nc_write.specs.declared.NcKind.TheVariants as kinds;
 ghost use Rattle.nc_write.specs.Kinds.{size_of, value};
 ghost use Rattle.nc_write.specs.Extents.{pad_len};
 ghost use Rattle.nc_write.specs.File.{kind_of, numbers_of, value_bytes, padded_if, fixed_data, record_data, record_of, data_of, pads_records};
+ghost use Rattle.nc_write.specs.Made.{made_values, made_var, made_doc};
 ghost use Rattle.nc_write.specs.Form.{HasItsValues};
 
+use crate::longs::{LongNumbers, Room};
 use crate::sizes::{is_record_var, pads_records};
 use crate::spell::put_padding;
 use crate::{DocVar, NcDoc, Values};
@@ -68,32 +70,52 @@ fn spell_longs(room: &mut Vec<u8>, numbers: &[i64]) -> Result<(), AllocError>
     Ok(())
 }
 
-fn values_len(values: &Values) -> usize
-    ensures { result ≡ length (numbers_of values.now) }
+// Spells the numbers that a list stands for, from one place up to another.
+fn spell_made<M: LongNumbers>(
+    room: &mut Room,
+    made: &M,
+    listed: &[i64],
+    from: usize,
+    to: usize,
+) -> Result<(), AllocError>
+    requires order { from ≤ to }
+    requires within { to ≤ length (M.numbers made.now listed.now) }
+    ensures { OnOk result (room.new.bytes.items ≡ value_bytes kinds.Int64
+        (slice_range (M.numbers made.now listed.now) from to)) }
+{
+    room.longs.resize(to - from, 0)?;
+    made.put(listed, from, &mut room.longs);
+    spell_longs(&mut room.bytes, &room.longs)
+}
+
+fn values_len<M: LongNumbers>(made: &M, values: &Values) -> usize
+    ensures { result ≡ length (numbers_of (made_values (M.numbers made.now) values.now)) }
 {
     match values {
         Values::Byte(numbers) => numbers.items.len(),
         Values::Int(numbers) => numbers.items.len(),
-        Values::Long(numbers) => numbers.items.len(),
+        Values::Long(numbers) => made.count(&numbers.items),
     }
 }
 
 // Spells the values from one place up to another, in place of what the room held.
-fn spell_values(
-    room: &mut Vec<u8>,
+fn spell_values<M: LongNumbers>(
+    room: &mut Room,
+    made: &M,
     values: &Values,
     from: usize,
     to: usize,
 ) -> Result<(), AllocError>
     requires order { from ≤ to }
-    requires within { to ≤ length (numbers_of values.now) }
-    ensures { OnOk result (room.new.items
-        ≡ value_bytes (kind_of values.now) (slice_range (numbers_of values.now) from to)) }
+    requires within { to ≤ length (numbers_of (made_values (M.numbers made.now) values.now)) }
+    ensures { OnOk result (room.new.bytes.items
+        ≡ value_bytes (kind_of (made_values (M.numbers made.now) values.now))
+        (slice_range (numbers_of (made_values (M.numbers made.now) values.now)) from to)) }
 {
     match values {
-        Values::Byte(numbers) => spell_bytes(room, &numbers.items[from..to]),
-        Values::Int(numbers) => spell_ints(room, &numbers.items[from..to]),
-        Values::Long(numbers) => spell_longs(room, &numbers.items[from..to]),
+        Values::Byte(numbers) => spell_bytes(&mut room.bytes, &numbers.items[from..to]),
+        Values::Int(numbers) => spell_ints(&mut room.bytes, &numbers.items[from..to]),
+        Values::Long(numbers) => spell_made(room, made, &numbers.items, from, to),
     }
 }
 
@@ -109,60 +131,65 @@ fn part_len(values: &Values) -> usize
 }
 
 // Writes one part: the values from one place up to another.
-fn write_part<W: Write>(
+fn write_part<W: Write, M: LongNumbers>(
     out: &mut W,
-    room: &mut Vec<u8>,
+    room: &mut Room,
+    made: &M,
     values: &Values,
     from: usize,
     to: usize,
 ) -> io::Result<()>
     requires order { from ≤ to }
-    requires within { to ≤ length (numbers_of values.now) }
+    requires within { to ≤ length (numbers_of (made_values (M.numbers made.now) values.now)) }
     ensures { OnOk result (Appends (W.contents out.old) (W.contents out.new)
-        (value_bytes (kind_of values.now) (slice_range (numbers_of values.now) from to))) }
+        (value_bytes (kind_of (made_values (M.numbers made.now) values.now))
+        (slice_range (numbers_of (made_values (M.numbers made.now) values.now)) from to))) }
 {
-    spell_values(room, values, from, to)?;
-    out.write_all(room)?;
+    spell_values(room, made, values, from, to)?;
+    out.write_all(&room.bytes)?;
     Ok(())
 }
 
 // Writes the values from one place up to another.
-fn write_values<W: Write>(
+fn write_values<W: Write, M: LongNumbers>(
     out: &mut W,
-    room: &mut Vec<u8>,
+    room: &mut Room,
+    made: &M,
     values: &Values,
     from: usize,
     to: usize,
 ) -> io::Result<()>
     requires order { from ≤ to }
-    requires within { to ≤ length (numbers_of values.now) }
+    requires within { to ≤ length (numbers_of (made_values (M.numbers made.now) values.now)) }
     ensures { OnOk result (Appends (W.contents out.old) (W.contents out.new)
-        (value_bytes (kind_of values.now) (slice_range (numbers_of values.now) from to))) }
+        (value_bytes (kind_of (made_values (M.numbers made.now) values.now))
+        (slice_range (numbers_of (made_values (M.numbers made.now) values.now)) from to))) }
 {
     let most = part_len(values);
     let mut at = from;
     while at < to {
         let next = at + most.min(to - at);
-        write_part(out, room, values, at, next)?;
+        write_part(out, room, made, values, at, next)?;
         at = next;
     }
     Ok(())
 }
 
 // Writes padding, of the default fill value of BYTE, behind so many bytes.
-fn write_padding<W: Write>(out: &mut W, room: &mut Vec<u8>, len: usize) -> io::Result<()>
+fn write_padding<W: Write>(out: &mut W, bytes: &mut Vec<u8>, len: usize) -> io::Result<()>
     ensures { OnOk result (Appends (W.contents out.old) (W.contents out.new)
         (replicate (pad_len len) 0x81)) }
 {
-    room.clear();
-    put_padding(room, len, 0x81)?;
-    out.write_all(room)?;
+    bytes.clear();
+    put_padding(bytes, len, 0x81)?;
+    out.write_all(bytes)?;
     Ok(())
 }
 
 // How many bytes so many values have past a multiple of 4.
 fn odd_bytes(values: &Values, count: usize) -> usize
-    ensures { pad_len result ≡ pad_len (size_of (kind_of values.now) * count) }
+    ensures { (f : List ℤ → List ℤ) → pad_len result
+        ≡ pad_len (size_of (kind_of (made_values f values.now)) * count) }
 {
     match values {
         Values::Byte(_) => count % 4,
@@ -172,121 +199,150 @@ fn odd_bytes(values: &Values, count: usize) -> usize
 }
 
 // Writes the values from one place up to another, with padding where that is wanted.
-fn write_piece<W: Write>(
+fn write_piece<W: Write, M: LongNumbers>(
     out: &mut W,
-    room: &mut Vec<u8>,
+    room: &mut Room,
+    made: &M,
     values: &Values,
     from: usize,
     to: usize,
     is_padded: bool,
 ) -> io::Result<()>
     requires order { from ≤ to }
-    requires within { to ≤ length (numbers_of values.now) }
+    requires within { to ≤ length (numbers_of (made_values (M.numbers made.now) values.now)) }
     ensures { OnOk result (Appends (W.contents out.old) (W.contents out.new)
-        (padded_if is_padded
-        (value_bytes (kind_of values.now) (slice_range (numbers_of values.now) from to)))) }
+        (padded_if is_padded (value_bytes (kind_of (made_values (M.numbers made.now) values.now))
+        (slice_range (numbers_of (made_values (M.numbers made.now) values.now)) from to)))) }
 {
-    write_values(out, room, values, from, to)?;
+    write_values(out, room, made, values, from, to)?;
     if !is_padded {
         return Ok(());
     }
-    write_padding(out, room, odd_bytes(values, to - from))?;
+    write_padding(out, &mut room.bytes, odd_bytes(values, to - from))?;
     Ok(())
 }
 
 // Writes what a variable has before the records.
-fn write_fixed<W: Write>(
+fn write_fixed<W: Write, M: LongNumbers>(
     out: &mut W,
-    room: &mut Vec<u8>,
+    room: &mut Room,
+    made: &M,
     doc: &NcDoc,
     var: &DocVar,
 ) -> io::Result<()>
     ensures { OnOk result (Appends (W.contents out.old) (W.contents out.new)
-        (fixed_data doc.now var.now)) }
+        (fixed_data (made_doc (M.numbers made.now) doc.now)
+        (made_var (M.numbers made.now) var.now))) }
 {
     if is_record_var(doc, var) {
         return Ok(());
     }
-    write_piece(out, room, &var.values, 0, values_len(&var.values), true)?;
+    let count = values_len(made, &var.values);
+    write_piece(out, room, made, &var.values, 0, count, true)?;
     Ok(())
 }
 
 // Writes what a variable has in record `r`: one of as many equal parts of its values as there are
 // records.
-fn write_record_part<W: Write>(
+fn write_record_part<W: Write, M: LongNumbers>(
     out: &mut W,
-    room: &mut Vec<u8>,
+    room: &mut Room,
+    made: &M,
     doc: &NcDoc,
     several: bool,
     r: u32,
     var: &DocVar,
 ) -> io::Result<()>
-    requires several { several ≡ pads_records doc.now }
+    requires several { several ≡ pads_records (made_doc (M.numbers made.now) doc.now) }
     requires record { r < doc.now.records }
-    requires values { HasItsValues doc.now var.now }
+    requires values { HasItsValues (made_doc (M.numbers made.now) doc.now)
+        (made_var (M.numbers made.now) var.now) }
     ensures { OnOk result (Appends (W.contents out.old) (W.contents out.new)
-        (record_data doc.now r var.now)) }
+        (record_data (made_doc (M.numbers made.now) doc.now) r
+        (made_var (M.numbers made.now) var.now))) }
 {
     if !is_record_var(doc, var) {
         return Ok(());
     }
-    let count = values_len(&var.values) / doc.records as usize;
+    let count = values_len(made, &var.values) / doc.records as usize;
     let from = r as usize * count;
-    write_piece(out, room, &var.values, from, from + count, several)?;
+    write_piece(out, room, made, &var.values, from, from + count, several)?;
     Ok(())
 }
 
 // Writes record `r` of each record variable.
-#[tactic(auto, unfolding(crate::specs::File::record_of))]
-fn write_record<W: Write>(
+fn write_record<W: Write, M: LongNumbers>(
     out: &mut W,
-    room: &mut Vec<u8>,
+    room: &mut Room,
+    made: &M,
     doc: &NcDoc,
     several: bool,
     r: u32,
 ) -> io::Result<()>
-    requires several { several ≡ pads_records doc.now }
+    requires several { several ≡ pads_records (made_doc (M.numbers made.now) doc.now) }
     requires record { r < doc.now.records }
-    requires values { All (HasItsValues doc.now) doc.now.vars }
+    requires values { All (λ v. HasItsValues (made_doc (M.numbers made.now) doc.now)
+        (made_var (M.numbers made.now) v)) doc.now.vars }
     ensures { OnOk result (Appends (W.contents out.old) (W.contents out.new)
-        (record_of doc.now r)) }
+        (flat_map (λ v. record_data (made_doc (M.numbers made.now) doc.now) r
+        (made_var (M.numbers made.now) v)) doc.now.vars)) }
 {
     for var in &doc.vars.items {
-        write_record_part(out, room, doc, several, r, var)?;
+        write_record_part(out, room, made, doc, several, r, var)?;
     }
     Ok(())
 }
 
-fn write_fixed_data<W: Write>(out: &mut W, room: &mut Vec<u8>, doc: &NcDoc) -> io::Result<()>
+fn write_fixed_data<W: Write, M: LongNumbers>(
+    out: &mut W,
+    room: &mut Room,
+    made: &M,
+    doc: &NcDoc,
+) -> io::Result<()>
     ensures { OnOk result (Appends (W.contents out.old) (W.contents out.new)
-        (flat_map (fixed_data doc.now) doc.now.vars)) }
+        (flat_map (λ v. fixed_data (made_doc (M.numbers made.now) doc.now)
+        (made_var (M.numbers made.now) v)) doc.now.vars)) }
 {
     for var in &doc.vars.items {
-        write_fixed(out, room, doc, var)?;
+        write_fixed(out, room, made, doc, var)?;
     }
     Ok(())
 }
 
-fn write_records<W: Write>(out: &mut W, room: &mut Vec<u8>, doc: &NcDoc) -> io::Result<()>
-    requires { All (HasItsValues doc.now) doc.now.vars }
+fn write_records<W: Write, M: LongNumbers>(
+    out: &mut W,
+    room: &mut Room,
+    made: &M,
+    doc: &NcDoc,
+) -> io::Result<()>
+    requires { All (λ v. HasItsValues (made_doc (M.numbers made.now) doc.now)
+        (made_var (M.numbers made.now) v)) doc.now.vars }
     ensures { OnOk result (Appends (W.contents out.old) (W.contents out.new)
-        (flat_map (record_of doc.now) (range_with_len 0 doc.now.records))) }
+        (flat_map (record_of (made_doc (M.numbers made.now) doc.now))
+        (range_with_len 0 doc.now.records))) }
 {
     let several = pads_records(doc);
     for r in 0..doc.records {
-        write_record(out, room, doc, several, r)?;
+        write_record(out, room, made, doc, several, r)?;
     }
     Ok(())
 }
 
-/// Writes first the variables without the record dimension, then the records. `room` is used for the
-/// parts, and what it holds then is open.
-pub fn write_data<W: Write>(out: &mut W, room: &mut Vec<u8>, doc: &NcDoc) -> io::Result<()>
-    requires { All (HasItsValues doc.now) doc.now.vars }
+/// Writes first the variables without the record dimension, then the records, with the numbers that
+/// the lists of 64-bit numbers stand for. `room` is used for the parts, and what it holds then is
+/// open.
+pub fn write_data<W: Write, M: LongNumbers>(
+    out: &mut W,
+    room: &mut Room,
+    made: &M,
+    doc: &NcDoc,
+) -> io::Result<()>
+    requires { All (HasItsValues (made_doc (M.numbers made.now) doc.now))
+        (made_doc (M.numbers made.now) doc.now).vars }
     ensures { OnOk result (Appends (W.contents out.old) (W.contents out.new)
-        (data_of doc.now)) }
+        (data_of (made_doc (M.numbers made.now) doc.now))) }
 {
-    write_fixed_data(out, room, doc)?;
-    write_records(out, room, doc)?;
+    write_fixed_data(out, room, made, doc)?;
+    write_records(out, room, made, doc)?;
     Ok(())
 }

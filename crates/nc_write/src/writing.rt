@@ -1,13 +1,15 @@
 // The file of a document.
-ghost use Rattle.std.specs.Prelude.{◌≡◌, ◌≤◌, ◌<◌, ◌+◌, ◌^◌, ◌++◌, length, IfOk, OnOk, IfErr};
+ghost use Rattle.std.specs.Prelude.{◌≡◌, ◌≤◌, ◌<◌, ◌+◌, ◌^◌, ◌++◌, ℤ, List, length, IfOk, OnOk, IfErr};
 ghost use Rattle.std.specs.Io.KnownBytes.{Appends};
 ghost use Rattle.std.specs.List.{sum_by};
 ghost use Rattle.nc_write.specs.File.{file_of, header, header_len, version_of, fixed_total, first_len};
-ghost use Rattle.nc_write.specs.Form.{IsWellFormed, SaysLength};
+ghost use Rattle.nc_write.specs.Form.{IsWellFormed, HasShortLists, SaysLength};
+ghost use Rattle.nc_write.specs.Made.{made_doc};
 
 use crate::data::{PART, write_data};
 use crate::extents::plus;
 use crate::lengths::header_len;
+use crate::longs::{Listed, LongNumbers, Room};
 use crate::sizes::{data_len, version_of};
 use crate::spell::{put_attributes, put_dimensions, put_number, put_variables};
 use crate::{EncFault, NcDoc};
@@ -16,12 +18,22 @@ use std::io::{self, Write};
 
 const MAX_FILE: u64 = 2_147_483_647;
 
+/// The length of the one file of a document, in bytes, from the lengths of its lists. Of what numbers
+/// of 64 bits its lists stand for only their count tells.
+pub fn length_of_made(doc: &NcDoc) -> u64
+    requires { HasShortLists doc.now }
+    ensures { (f : List ℤ → List ℤ) → IsWellFormed (made_doc f doc.now)
+        → result ≡ length (file_of (made_doc f doc.now)) }
+{
+    plus(header_len(version_of(doc), doc), data_len(doc))
+}
+
 /// The length of the one file of a document, in bytes, from the lengths of its lists.
 pub fn length_of(doc: &NcDoc) -> u64
     requires { IsWellFormed doc.now }
     ensures len { result ≡ length (file_of doc.now) }
 {
-    plus(header_len(version_of(doc), doc), data_len(doc))
+    length_of_made(doc)
 }
 
 #[tactic(auto, unfolding(crate::specs::File::header))]
@@ -38,15 +50,40 @@ fn put_header(out: &mut Vec<u8>, version: u8, doc: &NcDoc, begin: u64) -> Result
 }
 
 // Writes the header of a document.
-fn write_header<W: Write>(out: &mut W, room: &mut Vec<u8>, doc: &NcDoc) -> io::Result<()>
-    requires { IsWellFormed doc.now }
+fn write_header<W: Write>(out: &mut W, bytes: &mut Vec<u8>, doc: &NcDoc) -> io::Result<()>
+    requires short { HasShortLists doc.now }
+    requires room { header_len doc.now + fixed_total doc.now + sum_by (first_len doc.now)
+        doc.now.vars < 2 ^ 63 }
     ensures { OnOk result (Appends (W.contents out.old) (W.contents out.new)
         (header doc.now (header_len doc.now))) }
 {
     let version = version_of(doc);
-    room.clear();
-    put_header(room, version, doc, header_len(version, doc))?;
-    out.write_all(room)?;
+    bytes.clear();
+    put_header(bytes, version, doc, header_len(version, doc))?;
+    out.write_all(bytes)?;
+    Ok(())
+}
+
+/// Writes the one file of the document that a document stands for: its lists of 64-bit numbers stand
+/// for those that `made` makes. In version 5 where a variable is Long, else in version 2. The values
+/// are spelled part by part, so that beside the document one part stands in memory. After an error
+/// some prefix of the file may have been written.
+pub fn write_made<W: Write, M: LongNumbers>(
+    alloc: Global,
+    doc: &NcDoc,
+    made: &M,
+    out: &mut W,
+) -> io::Result<()>
+    requires { IsWellFormed (made_doc (M.numbers made.now) doc.now) }
+    ensures { OnOk result (Appends (W.contents out.old) (W.contents out.new)
+        (file_of (made_doc (M.numbers made.now) doc.now))) }
+{
+    let mut room = Room {
+        bytes: Vec::with_capacity(alloc, PART)?,
+        longs: Vec::new(alloc),
+    };
+    write_header(out, &mut room.bytes, doc)?;
+    write_data(out, &mut room, made, doc)?;
     Ok(())
 }
 
@@ -58,9 +95,7 @@ pub fn write_document<W: Write>(alloc: Global, doc: &NcDoc, out: &mut W) -> io::
     ensures { OnOk result (Appends (W.contents out.old) (W.contents out.new)
         (file_of doc.now)) }
 {
-    let mut room = Vec::with_capacity(alloc, PART)?;
-    write_header(out, &mut room, doc)?;
-    write_data(out, &mut room, doc)?;
+    write_made(alloc, doc, &Listed, out)?;
     Ok(())
 }
 

@@ -1,6 +1,7 @@
 use Rattle.std.proofs.Common.{◌≡◌, ◌<◌, ◌/◌, ℕ, List, [], Bool, true, false, if◌then◌else◌, rules, arith, sym, ap, ◌∙◌}
 use Rattle.nc_write.specs.Extents.{lens_of, piece_count}
 use Rattle.nc_write.specs.File.{kind_of, numbers_of, value_bytes, padded_if, record_data, record_numbers, is_record, pads_records}
+use Rattle.nc_write.specs.Made.{made_var, made_doc}
 use Rattle.nc_write.proofs.Appending.{appends_none, appends_same, values_record}
 use Rattle.nc_write.proofs.Records.{values_of_record}
 use Rattle.nc_write.proofs.data.write_record_part.Goals as goal
@@ -8,16 +9,18 @@ use Rattle.nc_write.proofs.data.write_record_part.Goals as goal
 pub returns-then-not-is_record_var : goal.returns-then-not-is_record_var
 unfolding record_data
 returns-then-not-is_record_var g c =
-    let doc = c.args.doc.now in
-    let v = c.args.var.now in
+    let f = g.M.LongNumbers.numbers c.args.made.now in
+    let doc = made_doc f c.args.doc.now in
+    let v = made_var f c.args.var.now in
     let not : is_record doc v ≡ false = search rules in
     appends_none _ _ (ap (λ (b : Bool). if b then padded_if (pads_records doc) (value_bytes (kind_of v.values) (record_numbers doc c.args.r v)) else []) not)
 
 pub returns : goal.returns
 unfolding record_data
 returns g c =
-    let doc = c.args.doc.now in
-    let v = c.args.var.now in
+    let f = g.M.LongNumbers.numbers c.args.made.now in
+    let doc = made_doc f c.args.doc.now in
+    let v = made_var f c.args.var.now in
     let r = c.args.r in
     let is : is_record doc v ≡ true = search rules in
     let some : 0 < doc.records = omega (arith, c.requires.record) in

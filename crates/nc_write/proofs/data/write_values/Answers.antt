@@ -1,11 +1,12 @@
 use Rattle.std.proofs.Common.{◌+◌, arith}
 use Rattle.nc_write.specs.File.{kind_of, numbers_of}
+use Rattle.nc_write.specs.Made.{made_values}
 use Rattle.nc_write.proofs.Appending.{appends_more, values_join}
 use Rattle.nc_write.proofs.data.write_values.Goals as goal
 
 pub loop-at-preserved : goal.loop-at-preserved
 loop-at-preserved g c =
-    let values = c.args.values.now in
+    let values = made_values (g.M.LongNumbers.numbers c.args.made.now) c.args.values.now in
     let before = c.loop-at.invariant in
     record {
       from = omega (arith, before.from);

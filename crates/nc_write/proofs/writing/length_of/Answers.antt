@@ -1,8 +1,10 @@
-use Rattle.std.proofs.Common.{arith}
-use Rattle.nc_write.proofs.Places.{has_its_values, length_file_of}
+use Rattle.std.proofs.Common.{ap, length, subst, sym, ◌∙◌}
+use Rattle.nc_write.specs.File.{file_of}
+use Rattle.nc_write.specs.Form.{IsWellFormed}
+use Rattle.nc_write.proofs.Made.{listed_doc}
 use Rattle.nc_write.proofs.writing.length_of.Goals as goal
 
 pub returns : goal.returns
 returns c =
     let doc = c.args.doc.now in
-    omega (arith, length_file_of doc (has_its_values doc c.requires), c.header_len.ensures, c.data_len.ensures, c.plus.ensures)
+    record { len = c.length_of_made.ensures (λ zs. zs) (subst IsWellFormed (sym (listed_doc doc)) c.requires) ∙ ap (λ d. length (file_of d)) (listed_doc doc) }

@@ -1,12 +1,12 @@
-use Rattle.std.proofs.Common.{refl}
+use Rattle.std.proofs.Common.{ap, subst, sym}
 use Rattle.nc_write.specs.File.{file_of}
-use Rattle.nc_write.proofs.Appending.{appends_more}
-use Rattle.nc_write.proofs.Places.{has_its_values}
+use Rattle.nc_write.specs.Form.{IsWellFormed}
+use Rattle.nc_write.proofs.Appending.{appends_same}
+use Rattle.nc_write.proofs.Made.{listed_doc}
 use Rattle.nc_write.proofs.writing.write_document.Goals as goal
 
-pub write_data-requires : goal.write_data-requires
-write_data-requires g c = has_its_values c.args.doc.now c.requires
+pub write_made-requires : goal.write_made-requires
+write_made-requires g c = subst IsWellFormed (sym (listed_doc c.args.doc.now)) c.requires
 
 pub returns : goal.returns
-unfolding file_of
-returns g c = appends_more _ _ _ _ _ _ c.in_ok-write_header.ensures c.in_ok-write_data.ensures refl
+returns g c = appends_same _ _ _ _ c.in_ok-write_made.ensures (ap file_of (listed_doc c.args.doc.now))
