@@ -3,7 +3,6 @@ use Rattle.std.proofs.Common.{◌≡◌, ℕ, ◌+◌, ◌-◌, ◌*◌, ◌<◌
 use Rattle.std.proofs.lemmas.List.{ext_get_or, get_or-take, get_or-drop, length-map, length-drop, length-take-le, get_or-set_same, get_or-set_other}
 use Rattle.std.proofs.Math.Seq.{take-length}
 use Rattle.std.proofs.lemmas.Bool.{cases_lt}
-use Rattle.std.proofs.lemmas.Nat.{div_below, div-mul-add}
 use Rattle.map_rows.specs.Maps.{MapParts}
 use Rattle.map_rows.specs.Application.{application_of, rest_of, rests_of}
 use Rattle.map_rows.proofs.Masses.{length-application_of, part_in}
@@ -39,11 +38,17 @@ as_range xs all from n size within are =
     are i below ∙ sym (get_or-take n (drop from all) i (pos 0) below ∙ get_or-drop from all i (pos 0)))
     ∙ ap (λ (k : ℕ). take k (drop from all)) (sym width)
 
--- all of a list
+-- all of them
 pub whole_range : (xs : List ℤ) (n : ℕ) → n ≡ length xs → slice_range xs 0 n ≡ xs
 whole_range xs n e =
     let all : n - 0 ≡ length xs = omega (arith, e) in
     ap (λ (k : ℕ). take k xs) all ∙ take-length xs
+
+pub all_rests : (m : MapParts) (slices : ℕ) (values old new : List ℤ) → length old ≡ slices * m.n_b → new ≡ slice_range (rests_of (application_of m slices values)) 0 (0 + length old) → new ≡ rests_of (application_of m slices values)
+all_rests m slices values old new size is = is ∙ whole_range (rests_of (application_of m slices values)) (0 + length old) (omega (arith, size, rest_count m slices values))
+
+pub put_size : (m : MapParts) (slices : ℕ) (values old new : List ℤ) → new ≡ slice_range (rests_of (application_of m slices values)) 0 (0 + length old) → length old ≡ slices * m.n_b → length new ≡ slices * m.n_b
+put_size m slices values old new is size = ap (length {A = ℤ}) (all_rests m slices values old new size is) ∙ rest_count m slices values
 
 -- one number more is as it should be
 pub one_more : (xs all : List ℤ) (from k : ℕ) (x : ℤ) → k < length xs → x ≡ get_or all (from + k) (pos 0) → ((i : ℕ) → i < k → get_or xs i (pos 0) ≡ get_or all (from + i) (pos 0))

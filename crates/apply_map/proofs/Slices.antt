@@ -1,20 +1,22 @@
 -- What is put target by target, and slice by slice.
-use Rattle.std.proofs.Common.{◌≡◌, ℕ, ◌+◌, ◌-◌, ◌<◌, ◌≤◌, ◌*◌, ℤ, pos, ◌≤ℤ◌, eqb, List, [], length, map, get_or, ap, subst, sym, ◌∙◌, refl, arith}
+use Rattle.std.proofs.Common.{◌≡◌, ℕ, ◌+◌, ◌-◌, ◌<◌, ◌≤◌, ◌*◌, ◌++◌, ◌∷◌, ℤ, pos, ◌≤ℤ◌, eqb, List, [], length, take, map, get_or, ap, ap₂, subst, sym, ◌∙◌, refl, arith}
 use Rattle.std.specs.List.{All}
-use Rattle.std.proofs.lemmas.List.{length-map}
+use Rattle.std.proofs.lemmas.List.{length-map, map-append, get_or-map, take_more}
 use Rattle.std.proofs.lemmas.List.Elements.{All-weaker, All-filter}
 use Rattle.std.proofs.lemmas.List.FromFn.{get_or-map-range_with_len}
 use Rattle.map_rows.specs.declared.rows.MapRow.{MapRow}
+use Rattle.map_rows.specs.declared.shares.Divisor.{Divisor}
 use Rattle.map_rows.specs.Maps.{MapParts, IsSoundMap, IsSoundRow, total, measure_of, target_of, rows_of, HasMeasure}
 use Rattle.map_rows.specs.Targets.{groups_of}
-use Rattle.map_rows.proofs.Groups.{count_next, count_most}
+use Rattle.map_rows.proofs.Groups.{count_next, count_most, length-groups_of}
 use Rattle.map_rows.proofs.Bounds.{target_area, target_covered}
 use Rattle.apply_map.specs.Values.{HasValue, carried}
-use Rattle.map_rows.specs.Application.{area_at, divided, share_at, application_of, whole_of, rest_of, wholes_of, rests_of}
+use Rattle.map_rows.specs.Application.{area_at, divided, share_at, application_of, whole_of, wholes_of}
 use Rattle.map_rows.specs.Places.{IsPut}
 use Rattle.map_rows.proofs.Masses.{length-application_of, part_in}
 use Rattle.map_rows.proofs.Places.{all_put}
-use Rattle.apply_map.specs.Fields.{whole_at, rest_at}
+use Rattle.apply_map.specs.Fields.{whole_at}
+use Rattle.apply_map.specs.Ready.{area_of, areas_of, AreTargetsOf}
 use Rattle.map_rows.proofs.FaceSums.{length-sums_of}
 
 pub size_of_areas : (m : MapParts) → IsSoundMap m → length m.area_b ≡ m.n_b
@@ -65,7 +67,31 @@ rows_at m values slice first j rows got s c e l is a =
 pub slice_within : (slice to n count : ℕ) → slice < to → to * n ≤ count → (slice + 1) * n ≤ count
 slice_within slice to n count l h = grind arith
 
--- what `apply` writes is the application
+-- A map made ready.
+
+-- one divisor more
+pub divisor_more : (areas : List ℤ) (k : ℕ) (divisors : List Divisor) (d : Divisor) → k < length areas → areas_of divisors ≡ take k areas → d.area ≡ get_or areas k (pos 0) → areas_of (divisors ++ d ∷ []) ≡ take (k + 1) areas
+divisor_more areas k divisors d l before is =
+    map-append area_of divisors (d ∷ []) ∙ ap₂ (λ (xs : List ℤ) (x : ℤ). xs ++ x ∷ []) before is ∙ sym (take_more areas k (pos 0) l)
+
+-- how many targets there are
+pub groups_size : (m : MapParts) (groups : List (List MapRow)) (divisors : List Divisor) → AreTargetsOf m groups divisors → length groups ≡ m.n_b
+groups_size m groups divisors t = ap (length {A = List MapRow}) t.groups_are ∙ length-groups_of m.n_b m.rows
+
+pub divisors_size : (m : MapParts) (groups : List (List MapRow)) (divisors : List Divisor) → AreTargetsOf m groups divisors → length divisors ≡ m.n_b
+divisors_size m groups divisors t = sym (length-map divisors area_of) ∙ ap (length {A = ℤ}) t.areas_are ∙ size_of_areas m t.sound
+
+-- what the target at place j has
+pub target_ready : (m : MapParts) (values : List ℤ) (slice first j : ℕ) (groups : List (List MapRow)) (divisors : List Divisor) (rows : List MapRow) (d e : Divisor) → AreTargetsOf m groups divisors → (slice + 1) * m.n_a ≤ length values
+    → first ≡ slice * m.n_a → j < m.n_b → rows ≡ get_or groups (j + 1 - 1) [] → d ≡ get_or divisors j e → AreRowsOf m values slice first j rows d.area
+target_ready m values slice first j groups divisors rows d e t c f l is at =
+    let place : j + 1 - 1 ≡ j = omega arith in
+    let mine = is ∙ ap (λ (k : ℕ). get_or groups k []) place ∙ ap (λ (all : List (List MapRow)). get_or all j []) t.groups_are in
+    let below : j < length divisors = omega (arith, l, divisors_size m groups divisors t) in
+    let area = ap area_of at ∙ sym (get_or-map area_of divisors j e (pos 0) below) ∙ ap (λ (xs : List ℤ). get_or xs j (pos 0)) t.areas_are in
+    rows_at m values slice first j rows d.area t.sound c f l mine area
+
+-- what `whole_parts` writes is of the application
 pub all_wholes : (m : MapParts) (slices : ℕ) (values old new : List ℤ) → IsSoundMap m → length old ≡ slices * m.n_b → IsPut m.n_b (whole_at m values) 0 slices 0 m.n_b old new
     → new ≡ wholes_of (application_of m slices values)
 all_wholes m slices values old new s size h =
@@ -75,16 +101,6 @@ all_wholes m slices values old new s size h =
     let place : k ≡ 1 + k - 1 = omega arith in
     ap (λ (i : ℕ). get_or (wholes_of (application_of m slices values)) (slice * m.n_b + i) (pos 0)) place
     ∙ part_in m slices values slice (1 + k) whole_of l (omega arith) (omega (arith, below))) h
-
-pub all_rests : (m : MapParts) (slices : ℕ) (values old new : List ℤ) → IsSoundMap m → length old ≡ slices * m.n_b → IsPut m.n_b (rest_at m values) 0 slices 0 m.n_b old new
-    → new ≡ rests_of (application_of m slices values)
-all_rests m slices values old new s size h =
-    all_put m.n_b (rest_at m values) slices old new (rests_of (application_of m slices values)) s.target_faces.0 size
-    (length-map (application_of m slices values) rest_of ∙ length-application_of m slices values)
-    (λ slice k l below.
-    let place : k ≡ 1 + k - 1 = omega arith in
-    ap (λ (i : ℕ). get_or (rests_of (application_of m slices values)) (slice * m.n_b + i) (pos 0)) place
-    ∙ part_in m slices values slice (1 + k) rest_of l (omega arith) (omega (arith, below))) h
 
 -- what holds of two lists holds of their equals
 pub of_equals : (P : List ℤ → List ℤ → Type 0) (a b c d : List ℤ) → a ≡ b → c ≡ d → P b d → P a c

@@ -1,117 +1,66 @@
 // What a map makes of a field.
-ghost use Rattle.std.specs.Prelude.{◌≡◌, ◌+◌, ◌*◌, ◌<◌, ◌≤◌, [], pos, ◌≤ℤ◌, All, IfOk, IfErr, OnOk, length, map, slice_index_or};
-ghost use Rattle.map_rows.specs.Maps.{total, measure_of, HasMeasure};
-ghost use Rattle.map_rows.specs.Targets.{groups_of};
-ghost use Rattle.map_rows.specs.Application.{divided, application_of, source_mass_of, target_mass_of};
+ghost use Rattle.std.specs.Prelude.{◌≡◌, ◌+◌, ◌*◌, ◌<◌, ◌≤◌, IfOk, IfErr, OnOk, length};
+ghost use Rattle.map_rows.specs.Application.{application_of, wholes_of, rests_of, source_mass_of, target_mass_of};
 ghost use Rattle.map_rows.specs.Laws.{KeepsConstants, KeepsBounds, IsFieldOf};
 ghost use Rattle.map_rows.specs.Places.{IsPut};
-ghost use Rattle.apply_map.specs.Fields.{field_of, whole_at, rest_at, IsApplyFaultOf};
-ghost use Rattle.apply_map.specs.Values.{HasValue, carried};
+ghost use Rattle.apply_map.specs.Fields.{field_of, whole_at, IsApplyFaultOf};
 
-use crate::sums::weighted_sum;
-use crate::{ApplyFault, Field};
-use map_rows::{
-    Block, Divisor, Map, MapRow, Share, TargetRows, block_from, divisor_of, rows_by_target,
-    share_by,
-};
-use std::alloc::Global;
+use crate::rests::put_rests;
+use crate::{ApplyFault, Field, Targets, targets_of};
+use map_rows::{Block, Map, block_from};
+use std::alloc::{AllocError, Global};
 use vec_exact::{Ints, Longs};
 
-/// What the target with these rows and this area gets in the slice whose values begin at `first`.
-pub fn target_share(rows: &[MapRow], divisor: Divisor, first: usize, values: &[i32]) -> Share
-    requires count { length rows.now ≤ 8388608 }
-    requires measures { All HasMeasure rows.now }
-    requires values { All (HasValue values.now first) rows.now }
-    requires area { divisor.area ≡ total (map measure_of rows.now) }
-    requires covered { pos 1 ≤ℤ divisor.area }
-    ensures whole { result.whole
-        ≡ (divided (total (map (carried values.now first) rows.now)) divisor.area).whole }
-    ensures rest { result.rest
-        ≡ (divided (total (map (carried values.now first) rows.now)) divisor.area).rest }
-{
-    share_by(weighted_sum(rows, first, values), divisor)
-}
-
-// Puts what the target at place `j` gets in the slices of a block.
-fn put_target(
-    map: &Map,
-    rows: &[MapRow],
-    j: usize,
-    block: Block,
-    values: &[i32],
-    whole: &mut [i32],
-    rest: &mut [i64],
-)
-    requires target { j < map.now.n_b }
-    requires rows { rows.now ≡ slice_index_or (groups_of map.now.n_b map.now.rows) j [] }
+// Puts the whole parts of what each target gets in the slices of a block.
+fn put_block(targets: &Targets, block: Block, values: &[i32], whole: &mut [i32])
     requires order { block.from ≤ block.to }
-    requires values { block.to * map.now.n_a ≤ length values.now }
-    requires whole { block.to * map.now.n_b ≤ length whole.old }
-    requires rest { block.to * map.now.n_b ≤ length rest.old }
-    ensures whole { IsPut map.now.n_b (whole_at map.now values.now) block.from block.to j (j + 1)
-        whole.old whole.new }
-    ensures rest { IsPut map.now.n_b (rest_at map.now values.now) block.from block.to j (j + 1)
-        rest.old rest.new }
+    requires values { block.to * targets.now.n_a ≤ length values.now }
+    requires whole { block.to * targets.now.n_b ≤ length whole.old }
+    ensures { IsPut targets.now.n_b (whole_at targets.now values.now) block.from block.to 0
+        targets.now.n_b whole.old whole.new }
 {
-    let areas: &[i64] = &map.area_b.items;
-    let divisor = divisor_of(areas[j]);
-    for slice in block.from..block.to {
-        let share = target_share(rows, divisor, slice as usize * map.n_a as usize, values);
-        let place = slice as usize * map.n_b as usize + j;
-        whole[place] = share.whole;
-        rest[place] = share.rest;
-    }
-}
-
-// Puts what each target gets in the slices of a block.
-fn put_block(
-    map: &Map,
-    by_target: &TargetRows,
-    block: Block,
-    values: &[i32],
-    whole: &mut [i32],
-    rest: &mut [i64],
-)
-    requires rows { by_target.now ≡ groups_of map.now.n_b map.now.rows }
-    requires order { block.from ≤ block.to }
-    requires values { block.to * map.now.n_a ≤ length values.now }
-    requires whole { block.to * map.now.n_b ≤ length whole.old }
-    requires rest { block.to * map.now.n_b ≤ length rest.old }
-    ensures whole { IsPut map.now.n_b (whole_at map.now values.now) block.from block.to 0
-        map.now.n_b whole.old whole.new }
-    ensures rest { IsPut map.now.n_b (rest_at map.now values.now) block.from block.to 0
-        map.now.n_b rest.old rest.new }
-{
+    let map = targets.map();
     for j in 0..map.n_b {
-        let rows = by_target.of(j + 1);
-        put_target(map, rows, j as usize, block, values, whole, rest);
+        targets.put_wholes(j as usize, block, values, whole);
     }
 }
 
-// Puts what each target gets in each of so many slices.
-fn put_slices(
-    map: &Map,
-    by_target: &TargetRows,
-    slices: u32,
-    values: &[i32],
-    whole: &mut [i32],
-    rest: &mut [i64],
-)
-    requires rows { by_target.now ≡ groups_of map.now.n_b map.now.rows }
-    requires values { slices * map.now.n_a ≤ length values.now }
-    requires whole { slices * map.now.n_b ≤ length whole.old }
-    requires rest { slices * map.now.n_b ≤ length rest.old }
-    ensures whole { IsPut map.now.n_b (whole_at map.now values.now) 0 slices 0 map.now.n_b
+// Puts the whole parts of what each target gets in each of so many slices.
+fn put_slices(targets: &Targets, slices: u32, values: &[i32], whole: &mut [i32])
+    requires values { slices * targets.now.n_a ≤ length values.now }
+    requires whole { slices * targets.now.n_b ≤ length whole.old }
+    ensures { IsPut targets.now.n_b (whole_at targets.now values.now) 0 slices 0 targets.now.n_b
         whole.old whole.new }
-    ensures rest { IsPut map.now.n_b (rest_at map.now values.now) 0 slices 0 map.now.n_b
-        rest.old rest.new }
 {
     let mut from = 0;
     while from < slices {
         let block = block_from(from, slices);
-        put_block(map, by_target, block, values, whole, rest);
+        put_block(targets, block, values, whole);
         from = block.to;
     }
+}
+
+/// The whole parts of the field that `apply` makes of `values`, for a field whose rests are made
+/// while it is written (`put_rests`). Its only error is want of memory.
+pub fn whole_parts(
+    alloc: Global,
+    targets: &Targets,
+    slices: u32,
+    values: &[i32],
+) -> Result<Ints, AllocError>
+    requires { length values.now ≡ slices * targets.now.n_a }
+    ensures parts { IfOk result (λ whole.
+        whole ≡ wholes_of (application_of targets.now slices values.now)) }
+    ensures count { IfOk result (λ whole. length whole ≡ slices * targets.now.n_b) }
+    // with the rests, their mass is that of the values
+    ensures masses { IfOk result (λ whole.
+        target_mass_of targets.now slices whole (rests_of (application_of targets.now slices values.now))
+        ≡ source_mass_of targets.now slices values.now) }
+{
+    let map = targets.map();
+    let mut whole = vec![in alloc; 0i32; slices as usize * map.n_b as usize]?;
+    put_slices(targets, slices, values, &mut whole);
+    Ok(Ints { items: whole })
 }
 
 /// The field over the targets of `map`, of so many slices, that it makes of `values`, which are
@@ -142,13 +91,12 @@ pub fn apply(alloc: Global, map: &Map, slices: u32, values: &[i32]) -> Result<Fi
             field: values.len() as u64,
         });
     }
-    let by_target = rows_by_target(alloc, map)?;
-    let count = slices as usize * map.n_b as usize;
-    let mut whole = vec![in alloc; 0i32; count]?;
-    let mut rest = vec![in alloc; 0i64; count]?;
-    put_slices(map, &by_target, slices, values, &mut whole, &mut rest);
+    let targets = targets_of(alloc, map)?;
+    let whole = whole_parts(alloc, &targets, slices, values)?;
+    let mut rest = vec![in alloc; 0i64; slices as usize * map.n_b as usize]?;
+    put_rests(&targets, slices, values, 0, &mut rest);
     Ok(Field {
-        whole: Ints { items: whole },
+        whole,
         rest: Longs { items: rest },
     })
 }

@@ -7,9 +7,11 @@ mod fill;
 mod masses;
 mod rests;
 mod sums;
+mod targets;
 
-pub use application::apply;
+pub use application::{apply, whole_parts};
 pub use fields::{ApplyFault, Field};
 pub use fill::fill_at;
 pub use masses::{mass_of_slice, source_mass, target_mass};
 pub use rests::put_rests;
+pub use targets::{Targets, targets_of};

@@ -58,6 +58,12 @@ comes_plain map found field in_data file before after status doc text none same 
     comes_as [] (IsFieldText in_data file) (Some file) (IsOutcomeOfDocument (plain_document map found field) (plain_text map found field) file) (IsOutcomeOfPlain map found field in_data file) before after status (λ o h. inr (none, h))
     (as_made in_data file before after status doc (plain_document map found field) text (plain_text map found field) same also comes)
 
+-- the map was made ready
+pub comes_of_ready : (map ready : MapParts) (found : DataVar) (field : FieldVar) (in_data file : List ℕ) (before after : Scene) (status : Status) → ready ≡ map
+    → Comes [] (IsFieldText in_data file) (Some file) (IsOutcomeOfPlain ready found field in_data file) before after status → Comes [] (IsFieldText in_data file) (Some file) (IsOutcomeOfPlain map found field in_data file) before after status
+comes_of_ready map ready found field in_data file before after status same comes =
+    subst (λ (m : MapParts). Comes [] (IsFieldText in_data file) (Some file) (IsOutcomeOfPlain m found field in_data file) before after status) same comes
+
 -- With a mask.
 
 pub comes_masked : (map : MapParts) (found : DataVar) (field : FieldVar) (in_data file : List ℕ) (before after : Scene) (status : Status) (doc : NcDoc) (text : List ℕ) → doc ≡ masked_document map found field → text ≡ masked_text map found field

@@ -1,11 +1,11 @@
 -- The map of the overlap of a file, from one piece after another.
-use Rattle.std.proofs.Common.{◌≡◌, ◌≢◌, ◌∙◌, ◌<◌, ◌≤◌, ◌+◌, ◌-◌, ℕ, Bool, List, [], ◌∷◌, ◌++◌, length, map, take, get_or, All, Option, refl, ap, sym, subst, arith, length-append}
+use Rattle.std.proofs.Common.{◌≡◌, ◌≢◌, ◌∙◌, ◌<◌, ◌≤◌, ◌+◌, ℕ, Bool, List, [], ◌∷◌, ◌++◌, length, map, take, get_or, All, Option, refl, ap, sym, subst, arith, length-append}
 use Rattle.std.proofs.Math.Seq.{take-append_seam}
 use Rattle.std.proofs.lemmas.List.{map-append, length-map, length-take, take-take, take_all, take_more}
 use Rattle.std.proofs.lemmas.List.Elements.{All-nil, All-cons, All-append}
 use Rattle.vec_exact.specs.declared.RawMesh.{RawMesh}
 use Rattle.clip.specs.declared.pieces.Piece.{Piece}
-use Rattle.clip.specs.Overlaps.{OverlapParts, IsSoundPiece}
+use Rattle.clip.specs.Overlaps.{IsSoundPiece}
 use Rattle.map_rows.specs.declared.rows.MapRow.{MapRow}
 use Rattle.map_rows.specs.Maps.{MapParts}
 use Rattle.remap_io.specs.Folder.{Folder}
@@ -13,7 +13,7 @@ use Rattle.remap_io.specs.Outside.{FilesSeen, OnlyReads}
 use Rattle.remap_load.proofs.Contents.{refusal_later}
 use Rattle.remap_files.specs.declared.vars.OverlapVars.{OverlapVars}
 use Rattle.remap_files.proofs.FoundOverlap.{overlap_vars_ok}
-use Rattle.overlap_load.specs.Windows.{Reading, IsRead, Begins}
+use Rattle.overlap_load.specs.Windows.{Reading, IsRead}
 use Rattle.overlap_load.proofs.Windowed.{begins}
 use Rattle.offline_map.specs.declared.faults.MapFault.{MapFault}
 use Rattle.offline_map.specs.declared.faults.MapFault.TheVariants.{NoMemory}

@@ -50,6 +50,9 @@ masked_field_text slices source target masked = masses_text slices source target
 abbrev pub plain_of : MapParts → DataVar → FieldVar → Field
 plain_of m found field = field_of (application_of m field.slices found.values)
 
+abbrev pub plain_rests : MapParts → DataVar → FieldVar → List ℤ
+plain_rests m found field = (plain_of m found field).rest
+
 abbrev pub plain_document : MapParts → DataVar → FieldVar → NcDoc
 plain_document m found field = let made = plain_of m found field in field_document found.file field m.n_b made.whole made.rest
 

@@ -2,7 +2,8 @@
 ghost use Rattle.std.specs.Prelude.{◌≡◌, ◌≤◌, ◌+◌, ℕ, List, [], IfOk, IfErr, IfSome, OnOk, Some, string_bytes};
 ghost use Rattle.remap_io.specs.Folder.{OnFile};
 ghost use Rattle.remap_io.specs.Outside.{OnlyReads};
-ghost use Rattle.nc_write.specs.Form.{IsWellFormed};
+ghost use Rattle.nc_write.specs.Form.{IsWellFormed, HasShortLists};
+ghost use Rattle.nc_write.specs.Made.{made_doc};
 ghost use Rattle.remap_load.specs.Kinds.{HasContent, IsFileRefusal, file_cost};
 ghost use Rattle.data_load.specs.DataFile.{IsDataVar};
 ghost use Rattle.command_line.specs.declared.choices.Chosen.TheVariants.{Apply as ApplyOf};
@@ -19,13 +20,15 @@ use crate::Status;
 use crate::faults::refuse_length;
 use crate::field_docs::{first_fill, masked_field, plain_field};
 use crate::field_faults::{refuse_data_file, refuse_fill, refuse_map_file, refuse_no_fit};
-use crate::finish::{refuse_memory, write_then_text};
+use crate::finish::{refuse_memory, write_made_then_text};
+use crate::rests::FieldRests;
+use apply_map::{Targets, targets_of};
 use command_line::Text;
 use data_load::{DataRefusal, DataVar, load_data};
 use field_files::{FieldVar, fit_field};
 use map_load::{MapRefusal, load_map};
 use map_rows::Map;
-use nc_write::{NcDoc, length_of};
+use nc_write::{Listed, LongNumbers, NcDoc, length_of_made};
 use remap_io::{Files, Sink};
 use std::alloc::Global;
 use vec_exact::MAX_FILE_LEN;
@@ -79,68 +82,103 @@ fn refuse_data_of<E: Sink>(err: &mut E, file: &Text, var: &Text, why: DataRefusa
     refuse_data_file(err, file.text.as_str(), var.text.as_str(), why)
 }
 
-// Writes the document of a field to `file`, unless that would be too long, and puts its text.
-fn write_document<F: Files, O: Sink, E: Sink>(
+// Writes what the document of a field stands for to `file`, unless that would be too long, and puts
+// its text.
+fn write_document<F: Files, O: Sink, E: Sink, M: LongNumbers>(
     alloc: Global,
-    doc: NcDoc,
+    doc: &NcDoc,
+    made: &M,
     text: &str,
     file: &Text,
     files: &mut F,
     out: &mut O,
     err: &mut E,
 ) -> Status
-    requires { IsWellFormed doc }
+    requires well_formed { IsWellFormed (made_doc (M.numbers made.now) doc.now) }
+    requires short { HasShortLists doc.now }
     ensures comes { (in_data : List ℕ) → Comes [] (IsFieldText in_data file.now) (Some file.now)
-        (IsOutcomeOfDocument doc text.now file.now)
+        (IsOutcomeOfDocument (made_doc (M.numbers made.now) doc.now) text.now file.now)
         (scene (F.seen files.old) (O.seen out.old) (E.seen err.old))
         (scene (F.seen files.new) (O.seen out.new) (E.seen err.new)) result }
     ensures no_line { result ≡ Status.Done → err.new ≡ err.old }
 {
-    let length = length_of(&doc);
+    let length = length_of_made(doc);
     if length > MAX_FILE_LEN {
         return refuse_length(err, file.text.as_str(), length);
     }
-    write_then_text(
+    write_made_then_text(
         alloc,
         files,
         out,
         err,
         file.text.as_str(),
-        &doc,
+        doc,
+        made,
         text.as_bytes(),
     )
 }
 
-// Writes the field that a map makes of a variable none of whose values is the fill value.
-fn write_unfilled<F: Files, O: Sink, E: Sink>(
+// Writes the field that a map, made ready, makes of a variable none of whose values is the fill
+// value. The rests are made while the file is written.
+fn write_by_targets<F: Files, O: Sink, E: Sink>(
     alloc: Global,
-    map: Map,
-    found: DataVar,
+    targets: &Targets,
+    found: &DataVar,
     field: FieldVar,
     file: &Text,
     files: &mut F,
     out: &mut O,
     err: &mut E,
 ) -> Status
-    requires over { LiesOver map found field }
-    requires unfilled { HasNoFill found }
+    requires over { LiesOver targets.now found.now field }
+    requires unfilled { HasNoFill found.now }
     ensures comes { (in_data : List ℕ) → Comes [] (IsFieldText in_data file.now) (Some file.now)
-        (IsOutcomeOfPlain map found field in_data file.now)
+        (IsOutcomeOfPlain targets.now found.now field in_data file.now)
         (scene (F.seen files.old) (O.seen out.old) (E.seen err.old))
         (scene (F.seen files.new) (O.seen out.new) (E.seen err.new)) result }
     ensures no_line { result ≡ Status.Done → err.new ≡ err.old }
 {
-    let Ok((doc, text)) = plain_field(alloc, map, found, field) else {
+    let Ok((doc, text)) = plain_field(alloc, targets, found, field) else {
         return refuse_memory(err);
     };
-    write_document(alloc, doc, text.as_str(), file, files, out, err)
+    let rests = FieldRests {
+        targets,
+        slices: field.slices,
+        values: &found.values.items,
+    };
+    write_document(alloc, &doc, &rests, text.as_str(), file, files, out, err)
+}
+
+// Writes the field that a map makes of a variable none of whose values is the fill value.
+fn write_unfilled<F: Files, O: Sink, E: Sink>(
+    alloc: Global,
+    map: &Map,
+    found: &DataVar,
+    field: FieldVar,
+    file: &Text,
+    files: &mut F,
+    out: &mut O,
+    err: &mut E,
+) -> Status
+    requires over { LiesOver map.now found.now field }
+    requires unfilled { HasNoFill found.now }
+    ensures comes { (in_data : List ℕ) → Comes [] (IsFieldText in_data file.now) (Some file.now)
+        (IsOutcomeOfPlain map.now found.now field in_data file.now)
+        (scene (F.seen files.old) (O.seen out.old) (E.seen err.old))
+        (scene (F.seen files.new) (O.seen out.new) (E.seen err.new)) result }
+    ensures no_line { result ≡ Status.Done → err.new ≡ err.old }
+{
+    let Ok(targets) = targets_of(alloc, map) else {
+        return refuse_memory(err);
+    };
+    write_by_targets(alloc, &targets, found, field, file, files, out, err)
 }
 
 // Writes the field that a map makes of a variable, unless a value is the fill value.
 fn write_plain<F: Files, O: Sink, E: Sink>(
     alloc: Global,
-    map: Map,
-    found: DataVar,
+    map: &Map,
+    found: &DataVar,
     field: FieldVar,
     in_data: &Text,
     file: &Text,
@@ -148,14 +186,14 @@ fn write_plain<F: Files, O: Sink, E: Sink>(
     out: &mut O,
     err: &mut E,
 ) -> Status
-    requires { LiesOver map found field }
+    requires { LiesOver map.now found.now field }
     ensures comes { Comes [] (IsFieldText in_data.now file.now) (Some file.now)
-        (IsOutcomeOfPlain map found field in_data.now file.now)
+        (IsOutcomeOfPlain map.now found.now field in_data.now file.now)
         (scene (F.seen files.old) (O.seen out.old) (E.seen err.old))
         (scene (F.seen files.new) (O.seen out.new) (E.seen err.new)) result }
     ensures no_line { result ≡ Status.Done → err.new ≡ err.old }
 {
-    match first_fill(&found) {
+    match first_fill(found) {
         Some(place) => refuse_fill(err, in_data, place),
         None => write_unfilled(alloc, map, found, field, file, files, out, err),
     }
@@ -164,17 +202,17 @@ fn write_plain<F: Files, O: Sink, E: Sink>(
 // Writes the masked field that a map makes of a variable.
 fn write_masked<F: Files, O: Sink, E: Sink>(
     alloc: Global,
-    map: Map,
-    found: DataVar,
+    map: &Map,
+    found: &DataVar,
     field: FieldVar,
     file: &Text,
     files: &mut F,
     out: &mut O,
     err: &mut E,
 ) -> Status
-    requires { LiesOver map found field }
+    requires { LiesOver map.now found.now field }
     ensures comes { (in_data : List ℕ) → Comes [] (IsFieldText in_data file.now) (Some file.now)
-        (IsOutcomeOfMasked map found field file.now)
+        (IsOutcomeOfMasked map.now found.now field file.now)
         (scene (F.seen files.old) (O.seen out.old) (E.seen err.old))
         (scene (F.seen files.new) (O.seen out.new) (E.seen err.new)) result }
     ensures no_line { result ≡ Status.Done → err.new ≡ err.old }
@@ -182,14 +220,14 @@ fn write_masked<F: Files, O: Sink, E: Sink>(
     let Ok((doc, text)) = masked_field(alloc, map, found, field) else {
         return refuse_memory(err);
     };
-    write_document(alloc, doc, text.as_str(), file, files, out, err)
+    write_document(alloc, &doc, &Listed, text.as_str(), file, files, out, err)
 }
 
 // Writes the field that a map makes of a variable, with a mask or without.
 fn write_field<F: Files, O: Sink, E: Sink>(
     alloc: Global,
-    map: Map,
-    found: DataVar,
+    map: &Map,
+    found: &DataVar,
     masked: bool,
     in_data: &Text,
     file: &Text,
@@ -197,9 +235,9 @@ fn write_field<F: Files, O: Sink, E: Sink>(
     out: &mut O,
     err: &mut E,
 ) -> Status
-    requires { IsDataVar found }
+    requires { IsDataVar found.now }
     ensures comes { Comes [] (IsFieldText in_data.now file.now) (Some file.now)
-        (IsOutcomeOfField masked map found in_data.now file.now)
+        (IsOutcomeOfField masked map.now found.now in_data.now file.now)
         (scene (F.seen files.old) (O.seen out.old) (E.seen err.old))
         (scene (F.seen files.new) (O.seen out.new) (E.seen err.new)) result }
     ensures no_line { result ≡ Status.Done → err.new ≡ err.old }
@@ -241,5 +279,10 @@ pub fn apply_offline_map<F: Files, O: Sink, E: Sink>(
         Ok(found) => found,
         Err(why) => return refuse_data_of(err, in_data, var, why),
     };
-    write_field(alloc, parts, found, masked, in_data, file, files, out, err)
+    let status = write_field(
+        alloc, &parts, &found, masked, in_data, file, files, out, err,
+    );
+    drop(parts);
+    drop(found);
+    status
 }

@@ -1,15 +1,14 @@
 // The documents and the texts of fields.
 ghost use Rattle.std.specs.Prelude.{◌≡◌, ◌*◌, length, string_bytes, IfOk, MatchOption};
-ghost use Rattle.map_rows.specs.Application.{source_mass_of, target_mass_of};
-ghost use Rattle.map_rows.specs.Laws.{IsFieldOf};
 ghost use Rattle.field_mask.specs.Laws.{IsMaskedFieldOf};
 ghost use Rattle.field_mask.specs.Masked.{present_mass_of, part_mass_of, masked_count_of};
-ghost use Rattle.nc_write.specs.Form.{IsWellFormed};
-ghost use Rattle.tempest_top.specs.Fields.{LiesOver, IsFilledAt, HasNoFill, source_text, masses_text, field_text, masked_field_text, plain_of, plain_document, plain_text, masked_of, masked_document, masked_text};
+ghost use Rattle.nc_write.specs.Form.{IsWellFormed, HasShortLists};
+ghost use Rattle.nc_write.specs.Made.{made_doc};
+ghost use Rattle.tempest_top.specs.Fields.{LiesOver, IsFilledAt, HasNoFill, source_text, masses_text, field_text, masked_field_text, plain_rests, plain_document, plain_text, masked_of, masked_document, masked_text};
 
-use apply_map::{ApplyFault, Field, apply, fill_at, source_mass, target_mass};
+use apply_map::{Targets, fill_at, source_mass, whole_parts};
 use data_load::DataVar;
-use field_files::{FieldVar, field_doc, masked_field_doc};
+use field_files::{FieldVar, field_frame_doc, masked_field_doc};
 use field_mask::{MaskFault, MaskedField, apply_masked, masked_count, part_mass, present_mass};
 use map_rows::Map;
 use nc_write::NcDoc;
@@ -41,58 +40,38 @@ fn masses_text(alloc: Global, slices: u32, source: i128, target: i128) -> Result
     Ok(text)
 }
 
-// The text of a field.
-fn field_text(
-    alloc: Global,
-    map: &Map,
-    slices: u32,
-    values: &[i32],
-    field: &Field,
-) -> Result<String, NoMemory>
-    requires counts { length values.now ≡ slices * map.now.n_a }
-    requires field { IsFieldOf map.now slices field.now.whole field.now.rest }
-    ensures { IfOk result (λ text. string_bytes text
-        ≡ field_text slices (source_mass_of map.now slices values.now)
-        (target_mass_of map.now slices field.now.whole field.now.rest)) }
+// The text of a field, whose mass is the same on both sides.
+fn field_text(alloc: Global, slices: u32, mass: i128) -> Result<String, NoMemory>
+    ensures { IfOk result (λ text. string_bytes text ≡ field_text slices mass mass) }
 {
-    let source = source_mass(map, slices, values);
-    let target = target_mass(map, slices, field);
-    let masses = masses_text(alloc, slices, source, target)?;
+    let masses = masses_text(alloc, slices, mass, mass)?;
     let text = format!(in alloc; "{masses}\n")?;
     Ok(text)
 }
 
-// The field that a map makes of a variable.
-fn applied(alloc: Global, map: &Map, found: &DataVar, field: FieldVar) -> Result<Field, NoMemory>
-    requires { LiesOver map.now found.now field }
-    ensures shares { IfOk result (λ made. made ≡ plain_of map.now found.now field) }
-    ensures sound { IfOk result (λ made. IsFieldOf map.now field.slices made.whole made.rest) }
-{
-    match apply(alloc, map, field.slices, &found.values.items) {
-        Ok(made) => Ok(made),
-        Err(ApplyFault::NoMemory) => Err(NoMemory),
-        Err(ApplyFault::Length { .. }) => unreachable!(),
-    }
-}
-
-/// The document and the text of the field that a map makes of a variable. The map and the variable
-/// are let go.
+/// The document and the text of the field that a map makes of a variable. The document has no rests:
+/// it stands for that with the rests of the field, which are made while it is written.
 pub fn plain_field(
     alloc: Global,
-    map: Map,
-    found: DataVar,
+    targets: &Targets,
+    found: &DataVar,
     field: FieldVar,
 ) -> Result<(NcDoc, String), NoMemory>
-    requires { LiesOver map found field }
-    ensures document { IfOk result (λ p. p.0 ≡ plain_document map found field) }
-    ensures well_formed { IfOk result (λ p. IsWellFormed p.0) }
-    ensures text { IfOk result (λ p. string_bytes p.1 ≡ plain_text map found field) }
+    requires { LiesOver targets.now found.now field }
+    ensures document { IfOk result (λ p.
+        made_doc (λ _. plain_rests targets.now found.now field) p.0
+        ≡ plain_document targets.now found.now field) }
+    ensures well_formed { IfOk result (λ p.
+        IsWellFormed (made_doc (λ _. plain_rests targets.now found.now field) p.0)) }
+    ensures short { IfOk result (λ p. HasShortLists p.0) }
+    ensures text { IfOk result (λ p.
+        string_bytes p.1 ≡ plain_text targets.now found.now field) }
 {
-    let made = applied(alloc, &map, &found, field)?;
-    let text = field_text(alloc, &map, field.slices, &found.values.items, &made)?;
-    let n_b = map.n_b;
-    drop(map);
-    let doc = field_doc(alloc, &found.file, field, n_b, made.whole, made.rest)?;
+    let map = targets.map();
+    let values: &[i32] = &found.values.items;
+    let whole = whole_parts(alloc, targets, field.slices, values)?;
+    let text = field_text(alloc, field.slices, source_mass(map, field.slices, values))?;
+    let doc = field_frame_doc(alloc, &found.file, field, map.n_b, whole)?;
     Ok((doc, text))
 }
 
@@ -136,33 +115,48 @@ fn applied_masked(
     }
 }
 
-/// The document and the text of the masked field that a map makes of a variable. The map and the
-/// variable are let go.
-pub fn masked_field(
+// The document of a masked field, which takes over its numbers.
+fn masked_doc(
     alloc: Global,
-    map: Map,
-    found: DataVar,
+    map: &Map,
+    found: &DataVar,
     field: FieldVar,
-) -> Result<(NcDoc, String), NoMemory>
-    requires { LiesOver map found field }
-    ensures document { IfOk result (λ p. p.0 ≡ masked_document map found field) }
-    ensures well_formed { IfOk result (λ p. IsWellFormed p.0) }
-    ensures text { IfOk result (λ p. string_bytes p.1 ≡ masked_text map found field) }
+    made: MaskedField,
+) -> Result<NcDoc, NoMemory>
+    requires over { LiesOver map.now found.now field }
+    requires made { made ≡ masked_of map.now found.now field }
+    requires sound { IsMaskedFieldOf map.now field.slices made }
+    ensures document { IfOk result (λ doc. doc ≡ masked_document map.now found.now field) }
+    ensures well_formed { IfOk result IsWellFormed }
 {
-    let made = applied_masked(alloc, &map, &found, field)?;
-    let text = masked_line(alloc, &map, field.slices, &found, &made)?;
-    let n_b = map.n_b;
-    drop(map);
     let MaskedField { whole, rest, part } = made;
-    let doc = masked_field_doc(
+    masked_field_doc(
         alloc,
         &found.file,
         field,
-        n_b,
+        map.n_b,
         found.fill,
         whole,
         rest,
         part,
-    )?;
+    )
+}
+
+/// The document and the text of the masked field that a map makes of a variable.
+pub fn masked_field(
+    alloc: Global,
+    map: &Map,
+    found: &DataVar,
+    field: FieldVar,
+) -> Result<(NcDoc, String), NoMemory>
+    requires { LiesOver map.now found.now field }
+    ensures document { IfOk result (λ p. p.0 ≡ masked_document map.now found.now field) }
+    ensures well_formed { IfOk result (λ p. IsWellFormed p.0) }
+    ensures text { IfOk result (λ p.
+        string_bytes p.1 ≡ masked_text map.now found.now field) }
+{
+    let made = applied_masked(alloc, map, found, field)?;
+    let text = masked_line(alloc, map, field.slices, found, &made)?;
+    let doc = masked_doc(alloc, map, found, field, made)?;
     Ok((doc, text))
 }

@@ -16,6 +16,7 @@ mod map;
 mod map_faults;
 mod pairs;
 mod report;
+mod rests;
 mod self_run;
 mod status;
 mod top;

@@ -41,7 +41,7 @@ returns-in-Err-data_of-clause-kept g c =
 pub returns-clause-kept : goal.returns-clause-kept
 returns-clause-kept g c =
     let before = scene (g.F.Files.seen c.args.files.now) (g.O.Sink.seen c.args.out.now) (g.E.Sink.seen c.args.err.now) in
-    let after = scene (g.F.Files.seen c.write_field.new.files) (g.O.Sink.seen c.write_field.new.out) (g.E.Sink.seen c.write_field.new.err) in
+    let after = scene (g.F.Files.seen c.write_field-status.new.files) (g.O.Sink.seen c.write_field-status.new.out) (g.E.Sink.seen c.write_field-status.new.err) in
     let map = c.args.map.now in
     let var = c.args.var.now in
     let in_data = c.args.in_data.now in
@@ -52,4 +52,4 @@ returns-clause-kept g c =
     (comes_of_map_and_data (λ (parts : MapParts) (found : DataVar). IsOutcomeOfField c.args.masked parts found in_data file) (IsFieldText in_data file) (Some file) map var in_data before (g.F.Files.seen c.map_of.new.files) (g.F.Files.seen c.data_of.new.files) after c.in-Ok.parts c.in-Ok-data_of.found _
     (record { holds = first.map; reads = first.reads; asked = first.asked })
     (record { holds = second.variable; reads = second.reads; asked = second.asked })
-    c.write_field.ensures.comes)
+    c.write_field-status.ensures.comes)

@@ -1,24 +1,18 @@
-use Rattle.std.proofs.Common.{rules, ◌++◌, codes, refl}
+use Rattle.std.proofs.Common.{sym, subst}
+use Rattle.nc_write.specs.declared.NcDoc.{NcDoc}
 use Rattle.nc_write.specs.File.{file_of}
-use Rattle.remap_io.specs.Causes.{Rose}
-use Rattle.remap_io.specs.Folder.{IsPartlyReplaced}
-use Rattle.tempest_top.specs.Lines.{PutsText}
+use Rattle.nc_write.specs.Form.{IsWellFormed}
+use Rattle.nc_write.proofs.Made.{listed_doc}
 use Rattle.tempest_top.specs.Scene.{scene}
-use Rattle.tempest_top.proofs.Pieces.{text_of_two}
-use Rattle.tempest_top.proofs.Written.{ends_written, ends_failed}
+use Rattle.tempest_top.specs.Outcome.{written}
+use Rattle.tempest_top.specs.Ends.{Ends}
 use Rattle.tempest_top.proofs.finish.write_then_text.Goals as goal
 
-pub returns-in-Ok-clause-ends : goal.returns-in-Ok-clause-ends
-returns-in-Ok-clause-ends g c =
-    let before = scene (g.F.Files.seen c.args.files.now) (g.O.Sink.seen c.args.out.now) (g.E.Sink.seen c.args.err.now) in
-    let after = scene (g.F.Files.seen c.replace_with.new.self) (g.O.Sink.seen c.put_text_alone.new.out) (g.E.Sink.seen c.put_text_alone.new.err) in
-    ends_written (record { name = c.args.name.now; bytes = file_of c.args.doc.now }) c.args.text.now before after _ c.in-Ok.ensures.ok (c.put_text_alone.ensures.ends (g.F.Files.seen c.replace_with.new.self))
+pub write_made_then_text-requires : goal.write_made_then_text-requires
+write_made_then_text-requires g c = subst IsWellFormed (sym (listed_doc c.args.doc.now)) c.requires
 
-pub returns-in-Err-Failed-clause-ends : goal.returns-in-Err-Failed-clause-ends
-returns-in-Err-Failed-clause-ends g c =
+pub returns-clause-ends : goal.returns-clause-ends
+returns-clause-ends g c =
     let before = scene (g.F.Files.seen c.args.files.now) (g.O.Sink.seen c.args.out.now) (g.E.Sink.seen c.args.err.now) in
-    let after = scene (g.F.Files.seen c.replace_with.new.self) (g.O.Sink.seen c.args.out.now) (g.E.Sink.seen c.put_line.new.err) in
-    let part : IsPartlyReplaced before.files.folder c.args.name.now (file_of c.args.doc.now) after.files.folder = search rules in
-    let rose : Rose before.files.write_faults after.files.write_faults = search rules in
-    let put : PutsText before.err after.err (codes "write fault on " ++ c.args.name.now) = text_of_two (PutsText before.err after.err) (codes "write fault on ") c.args.name.now c.args.name.now refl c.put_line.ensures.line in
-    ends_failed (record { name = c.args.name.now; bytes = file_of c.args.doc.now }) c.args.text.now before after part rose refl put
+    let after = scene (g.F.Files.seen c.write_made_then_text.new.files) (g.O.Sink.seen c.write_made_then_text.new.out) (g.E.Sink.seen c.write_made_then_text.new.err) in
+    subst (λ (d : NcDoc). Ends (written (record { name = c.args.name.now; bytes = file_of d }) c.args.text.now before.files.folder) before after c.write_made_then_text.result) (listed_doc c.args.doc.now) c.write_made_then_text.ensures.ends
