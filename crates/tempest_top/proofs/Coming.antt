@@ -11,11 +11,11 @@ use Rattle.remap_load.specs.declared.refusal.FileRefusal.{FileRefusal}
 use Rattle.remap_load.specs.declared.refusal.FileRefusal.TheVariants.{Load, Content}
 use Rattle.remap_load.specs.Kinds.{HasContent, IsFile, IsFileRefusal, file_cost}
 use Rattle.remap_load.proofs.Contents.{told_refusal, told_of}
-use Rattle.tempest_top.specs.declared.status.Status.{Status}
-use Rattle.tempest_top.specs.declared.status.Status.TheVariants.{Done, Usage, NoFile, Format, Names, Mesh, Rows, Uncovered, Limit, Field, ReadFault, WriteFault, NoMemory}
+use Rattle.fault_lines.specs.declared.status.Status.{Status}
+use Rattle.fault_lines.specs.declared.status.Status.TheVariants.{Done, Usage, NoFile, Format, Names, Mesh, Rows, Uncovered, Limit, Field, ReadFault, WriteFault, NoMemory}
 use Rattle.tempest_top.specs.Scene.{Scene, scene}
-use Rattle.tempest_top.specs.Lines.{PutsText}
-use Rattle.tempest_top.specs.Faults.{FileWords, status_of, text_of, read_fault_text}
+use Rattle.fault_lines.specs.Lines.{PutsText}
+use Rattle.fault_lines.specs.Faults.{FileWords, status_of, text_of, read_fault_text}
 use Rattle.tempest_top.specs.Inputs.{Input, name_of_input, IsGood, cost_of, IsFileText, IsInputText, AreTold, IsReached, reading_cost}
 use Rattle.tempest_top.specs.Outcome.{Output, Outcome, AfterFile, refusal}
 use Rattle.tempest_top.specs.Promises.{IsTextOf, IsWriteFaultText, IsLate, IsPartlyWritten}

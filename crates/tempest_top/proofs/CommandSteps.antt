@@ -28,9 +28,10 @@ use Rattle.remap_chain.proofs.OneField.{no_counts_a, no_counts_b, no_row}
 use Rattle.command_line.specs.Words.{options_of}
 use Rattle.command_line.specs.declared.choices.Chosen.{Chosen}
 use Rattle.command_line.specs.declared.choices.Chosen.TheVariants.{OfflineMap}
-use Rattle.tempest_top.specs.declared.status.Status.TheVariants.{Done, Uncovered, Limit}
-use Rattle.tempest_top.specs.Faults.{FileWords, mesh_words}
-use Rattle.tempest_top.specs.MapFaults.{overlap_words, status_of_map_fault}
+use Rattle.fault_lines.specs.declared.status.Status.TheVariants.{Done, Uncovered, Limit}
+use Rattle.fault_lines.specs.Faults.{FileWords, mesh_words}
+use Rattle.fault_lines.specs.RowFaults.{status_of_map_fault}
+use Rattle.tempest_top.specs.MapFaults.{overlap_words}
 use Rattle.tempest_top.specs.Outcome.{Outcome, AfterFile, IsOutcome, IsOutcomeOfPair, IsOutcomeOfMap, IsOutcomeOfDocument}
 use Rattle.tempest_top.specs.CommandLaws.{HoldsMeshes, AsksOverlap, IsDone, MakesMap, MapAfterOverlap}
 use Rattle.tempest_top.proofs.MapEnds.{short_map_file}

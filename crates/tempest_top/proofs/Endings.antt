@@ -12,11 +12,12 @@ use Rattle.overlap_run.specs.declared.faults.RunFault.{RunFault}
 use Rattle.overlap_run.specs.declared.faults.RunFault.TheVariants.{TooManyPieces, NoMemory as NoRunMemory}
 use Rattle.overlap_run.specs.Whole.{IsOverlapOf, IsRefusalOf}
 use Rattle.remap_files.specs.OverlapDocument.{overlap_document}
-use Rattle.tempest_top.specs.declared.status.Status.{Status}
-use Rattle.tempest_top.specs.declared.status.Status.TheVariants.{Mesh, Limit}
+use Rattle.fault_lines.specs.declared.status.Status.{Status}
+use Rattle.fault_lines.specs.declared.status.Status.TheVariants.{Mesh, Limit}
 use Rattle.tempest_top.specs.Scene.{Scene}
-use Rattle.tempest_top.specs.Lines.{pieces_text, PutsText}
-use Rattle.tempest_top.specs.Faults.{length_text, too_many_pieces_text, mesh_fault_text, run_text, status_of_run, made_text, status_of_made}
+use Rattle.fault_lines.specs.Lines.{PutsText}
+use Rattle.tempest_top.specs.Texts.{pieces_text}
+use Rattle.fault_lines.specs.Faults.{length_text, too_many_pieces_text, mesh_fault_text, run_text, status_of_run, made_text, status_of_made}
 use Rattle.tempest_top.specs.Outcome.{IsOutcomeOfDocument, IsOutcomeOfPair, refusal, fault_of_made, mesh_output, mesh_written, written}
 use Rattle.tempest_top.specs.Promises.{IsMadeText, IsOverlapText}
 use Rattle.tempest_top.specs.Ends.{written_name, Ends, Comes}

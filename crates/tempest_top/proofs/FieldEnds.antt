@@ -7,11 +7,11 @@ use Rattle.field_files.specs.declared.FieldVar.{FieldVar}
 use Rattle.field_files.specs.declared.NoFit.{NoFit}
 use Rattle.field_files.specs.FieldShapes.{field_over}
 use Rattle.data_load.specs.declared.DataVar.{DataVar}
-use Rattle.tempest_top.specs.declared.status.Status.{Status}
-use Rattle.tempest_top.specs.declared.status.Status.TheVariants.{Field, Limit}
+use Rattle.fault_lines.specs.declared.status.Status.{Status}
+use Rattle.fault_lines.specs.declared.status.Status.TheVariants.{Field, Limit}
 use Rattle.tempest_top.specs.Scene.{Scene}
-use Rattle.tempest_top.specs.Lines.{PutsText}
-use Rattle.tempest_top.specs.Faults.{length_text}
+use Rattle.fault_lines.specs.Lines.{PutsText}
+use Rattle.fault_lines.specs.Faults.{length_text}
 use Rattle.tempest_top.specs.FieldFaults.{no_fit_text, fill_text}
 use Rattle.tempest_top.specs.Fields.{IsFilledAt, HasNoFill, plain_document, plain_text, masked_document, masked_text}
 use Rattle.tempest_top.specs.Outcome.{IsOutcomeOfDocument, IsOutcomeOfPlain, IsOutcomeOfMasked, IsOutcomeOfFit, IsOutcomeOfField, refusal, written}

@@ -22,7 +22,7 @@ use Rattle.field_files.specs.FieldShapes.{field_over}
 use Rattle.data_load.specs.declared.DataVar.{DataVar}
 use Rattle.data_load.specs.DataFile.{data_kind}
 use Rattle.command_line.specs.declared.choices.Chosen.{Chosen}
-use Rattle.tempest_top.specs.declared.status.Status.TheVariants.{Done, Uncovered, Limit, Field}
+use Rattle.fault_lines.specs.declared.status.Status.TheVariants.{Done, Uncovered, Limit, Field}
 use Rattle.tempest_top.specs.FieldFaults.{map_words, data_words}
 use Rattle.tempest_top.specs.Outcome.{Outcome, AfterFile, IsOutcome, IsOutcomeOfMap, IsOutcomeOfDocument, IsOutcomeOfFit, IsOutcomeOfField}
 use Rattle.tempest_top.specs.CommandLaws.{carried_document, carried_text, mass_before, mass_after, MakesField, CarriesField, FieldAfterMap}

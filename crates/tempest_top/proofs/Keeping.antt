@@ -10,12 +10,13 @@ use Rattle.offline_map.specs.declared.faults.MapFault.{MapFault}
 use Rattle.offline_map.specs.declared.faults.MapFault.TheVariants as of_map
 use Rattle.command_line.specs.declared.choices.Chosen.{Chosen}
 use Rattle.command_line.specs.declared.choices.Chosen.TheVariants.{Cs, Rll, Ico, Overlap, OfflineMap, Apply, SelfRun, Coverage, Check}
-use Rattle.tempest_top.specs.declared.status.Status.{Status}
-use Rattle.tempest_top.specs.declared.status.Status.TheVariants.{Done, Usage, NoFile, Format, Names, Mesh, Rows, Uncovered, Limit, Field, ReadFault, WriteFault, NoMemory}
+use Rattle.fault_lines.specs.declared.status.Status.{Status}
+use Rattle.fault_lines.specs.declared.status.Status.TheVariants.{Done, Usage, NoFile, Format, Names, Mesh, Rows, Uncovered, Limit, Field, ReadFault, WriteFault, NoMemory}
 use Rattle.tempest_top.specs.Scene.{Scene}
-use Rattle.tempest_top.specs.Lines.{line_of, GainsLine, IsPutRefused, PutsText}
-use Rattle.tempest_top.specs.Faults.{FileWords, status_of, mesh_words}
-use Rattle.tempest_top.specs.MapFaults.{overlap_words, status_of_map_fault}
+use Rattle.fault_lines.specs.Lines.{line_of, GainsLine, IsPutRefused, PutsText}
+use Rattle.fault_lines.specs.Faults.{FileWords, status_of, mesh_words}
+use Rattle.fault_lines.specs.RowFaults.{status_of_map_fault}
+use Rattle.tempest_top.specs.MapFaults.{overlap_words}
 use Rattle.tempest_top.specs.FieldFaults.{map_words, data_words}
 use Rattle.tempest_top.specs.Inputs.{Input, MeshFile, OverlapFile, MapFile, DataFile, inputs_of, output_of, AreTold, IsReached, IsInputText}
 use Rattle.tempest_top.specs.Outcome.{Output, Outcome, IsOutcome, TheOutcome, is_usage}

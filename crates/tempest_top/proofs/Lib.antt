@@ -4,16 +4,13 @@ mod CommandSteps
 mod Endings
 mod FieldEnds
 mod FieldSteps
-mod Gaining
 mod Keeping
 mod LaidOver
 mod MapAndData
 mod MapEnds
 mod MapMaking
-mod MapTexts
 pub mod Outcomes
 mod OwnOverlaps
-mod Pieces
 mod SelfRunEnds
 mod ThreeFiles
 mod TwoMeshes

@@ -6,7 +6,7 @@ use Rattle.exodus_mesh.specs.declared.faults.FileFault.{FileFault}
 use Rattle.data_load.specs.declared.DataVar.{DataVar}
 use Rattle.remap_io.specs.Outside.{FilesSeen}
 use Rattle.remap_load.specs.declared.refusal.FileRefusal.{FileRefusal}
-use Rattle.tempest_top.specs.declared.status.Status.{Status}
+use Rattle.fault_lines.specs.declared.status.Status.{Status}
 use Rattle.tempest_top.specs.Scene.{Scene}
 use Rattle.tempest_top.specs.FieldFaults.{map_words, data_words}
 use Rattle.tempest_top.specs.Inputs.{Input, MapFile, DataFile}

@@ -12,12 +12,14 @@ use Rattle.offline_map.specs.Maps.{map_of}
 use Rattle.offline_map.specs.MapFaults.{IsMapFaultOf, IsMappable}
 use Rattle.map_files.specs.MapDocument.{map_document}
 use Rattle.map_files.proofs.MapLength.{length_map_file}
-use Rattle.tempest_top.specs.declared.status.Status.{Status}
-use Rattle.tempest_top.specs.declared.status.Status.TheVariants.{NoFile}
+use Rattle.fault_lines.specs.declared.status.Status.{Status}
+use Rattle.fault_lines.specs.declared.status.Status.TheVariants.{NoFile}
 use Rattle.tempest_top.specs.Scene.{Scene}
-use Rattle.tempest_top.specs.Lines.{map_text, PutsText}
-use Rattle.tempest_top.specs.MapFaults.{overlap_words, status_of_map_fault, map_fault_text, IsMapText}
-use Rattle.tempest_top.specs.Faults.{mesh_words}
+use Rattle.fault_lines.specs.Lines.{PutsText}
+use Rattle.tempest_top.specs.Texts.{map_text}
+use Rattle.fault_lines.specs.RowFaults.{status_of_map_fault, map_fault_text, IsMapText}
+use Rattle.tempest_top.specs.MapFaults.{overlap_words}
+use Rattle.fault_lines.specs.Faults.{mesh_words}
 use Rattle.tempest_top.specs.Inputs.{MeshFile, OverlapFile}
 use Rattle.tempest_top.specs.Outcome.{IsOutcomeOfMap, written}
 use Rattle.tempest_top.specs.Ends.{written_name, Ends, Comes}

@@ -35,11 +35,12 @@ use Rattle.remap_chain.proofs.OnePair.{one_count, one_overlap, count_of_overlap}
 use Rattle.remap_chain.proofs.OneField.{same_chain, same_fault, no_fault}
 use Rattle.command_line.specs.declared.choices.Chosen.{Chosen}
 use Rattle.command_line.specs.declared.choices.Chosen.TheVariants.{Cs, Rll, Ico, Overlap, OfflineMap, Apply, SelfRun, Coverage, Check}
-use Rattle.tempest_top.specs.declared.status.Status.TheVariants.{Uncovered, Limit, Field}
-use Rattle.tempest_top.specs.Lines.{pieces_text, coverage_text, report_text}
+use Rattle.fault_lines.specs.declared.status.Status.TheVariants.{Uncovered, Limit, Field}
+use Rattle.tempest_top.specs.Texts.{pieces_text, coverage_text, report_text}
 use Rattle.tempest_top.specs.SelfRuns.{values_of_faces, chain_text}
-use Rattle.tempest_top.specs.Faults.{FileWords, status_of, text_of, mesh_words, too_many_pieces_text}
-use Rattle.tempest_top.specs.MapFaults.{overlap_words, status_of_map_fault, map_fault_text, uncovered_text}
+use Rattle.fault_lines.specs.Faults.{FileWords, status_of, text_of, mesh_words, too_many_pieces_text}
+use Rattle.fault_lines.specs.RowFaults.{status_of_map_fault, map_fault_text, uncovered_text}
+use Rattle.tempest_top.specs.MapFaults.{overlap_words}
 use Rattle.tempest_top.specs.Outcome.{Outcome, IsOutcome, IsOutcomeOfMade, IsOutcomeOfDocument, IsOutcomeOfPair, IsOutcomeOfMap, IsOutcomeOfCoverage, IsOutcomeOfReport, IsOutcomeOfChain, IsOutcomeOfSelfRun, AfterFile, text_alone, refusal, fault_of_made, mesh_written, is_usage, usage, IsOutcomeOfPlain, IsOutcomeOfFit, IsOutcomeOfField}
 use Rattle.tempest_top.specs.FieldFaults.{map_words, data_words, fill_text}
 

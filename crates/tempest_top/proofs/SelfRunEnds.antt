@@ -11,13 +11,13 @@ use Rattle.remap_chain.specs.declared.whole.ChainOut.{ChainOut}
 use Rattle.remap_chain.specs.declared.faults.ChainFault.{ChainFault}
 use Rattle.remap_chain.specs.declared.faults.ChainFault.TheVariants as of_chain
 use Rattle.remap_chain.specs.Chains.{IsChainOf, IsChainFaultOf}
-use Rattle.tempest_top.specs.declared.status.Status.{Status}
-use Rattle.tempest_top.specs.declared.status.Status.TheVariants.{Mesh, Uncovered, Limit}
+use Rattle.fault_lines.specs.declared.status.Status.{Status}
+use Rattle.fault_lines.specs.declared.status.Status.TheVariants.{Mesh, Uncovered, Limit}
 use Rattle.tempest_top.specs.Scene.{Scene}
-use Rattle.tempest_top.specs.Lines.{PutsText}
+use Rattle.fault_lines.specs.Lines.{PutsText}
 use Rattle.tempest_top.specs.SelfRuns.{values_of_faces, chain_text, status_of_chain, chain_fault_text, IsSelfRunFault}
-use Rattle.tempest_top.specs.Faults.{too_many_pieces_text, mesh_fault_text, made_text, status_of_made}
-use Rattle.tempest_top.specs.MapFaults.{uncovered_text}
+use Rattle.fault_lines.specs.Faults.{too_many_pieces_text, mesh_fault_text, made_text, status_of_made}
+use Rattle.fault_lines.specs.RowFaults.{uncovered_text}
 use Rattle.tempest_top.specs.Outcome.{IsOutcomeOfChain, IsOutcomeOfSelfRun, fault_of_made, text_alone}
 use Rattle.tempest_top.specs.Promises.{IsSelfRunText}
 use Rattle.tempest_top.specs.Ends.{Ends, Comes}

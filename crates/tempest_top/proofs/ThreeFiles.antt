@@ -6,10 +6,10 @@ use Rattle.remap_io.specs.Outside.{FilesSeen, OnlyReads}
 use Rattle.remap_load.specs.declared.refusal.FileRefusal.{FileRefusal}
 use Rattle.remap_load.specs.Kinds.{HasContent, IsFileRefusal, file_cost}
 use Rattle.mesh_load.specs.declared.MeshFileFault.{MeshFileFault}
-use Rattle.tempest_top.specs.declared.status.Status.{Status}
+use Rattle.fault_lines.specs.declared.status.Status.{Status}
 use Rattle.tempest_top.specs.Scene.{Scene}
-use Rattle.tempest_top.specs.Lines.{PutsText}
-use Rattle.tempest_top.specs.Faults.{FileWords, mesh_words, status_of, text_of}
+use Rattle.fault_lines.specs.Lines.{PutsText}
+use Rattle.fault_lines.specs.Faults.{FileWords, mesh_words, status_of, text_of}
 use Rattle.tempest_top.specs.Inputs.{Input, MeshFile}
 use Rattle.tempest_top.specs.Outcome.{AfterFile}
 use Rattle.tempest_top.specs.Ends.{Comes}

@@ -3,11 +3,11 @@ use Rattle.std.proofs.Common.{◌≡◌, ◌≢◌, ◌∙◌, ◌++◌, ℕ, Li
 use Rattle.std.proofs.Math.Seq.{take-length}
 use Rattle.remap_io.specs.Causes.{Rose}
 use Rattle.remap_io.specs.Folder.{Folder, with_file, IsPartlyReplaced}
-use Rattle.tempest_top.specs.declared.status.Status.{Status}
-use Rattle.tempest_top.specs.declared.status.Status.TheVariants.{Done, Usage, NoFile, Format, Names, Mesh, Rows, Uncovered, Limit, Field, ReadFault, WriteFault, NoMemory}
+use Rattle.fault_lines.specs.declared.status.Status.{Status}
+use Rattle.fault_lines.specs.declared.status.Status.TheVariants.{Done, Usage, NoFile, Format, Names, Mesh, Rows, Uncovered, Limit, Field, ReadFault, WriteFault, NoMemory}
 use Rattle.tempest_top.specs.Scene.{Scene, scene}
 use Rattle.tempest_top.specs.Outcome.{Output, Outcome, text_alone, written}
-use Rattle.tempest_top.specs.Lines.{PutsText}
+use Rattle.fault_lines.specs.Lines.{PutsText}
 use Rattle.tempest_top.specs.Promises.{IsLate}
 use Rattle.tempest_top.specs.Ends.{IsEnd, Ends}
 

@@ -22,8 +22,8 @@ use Rattle.data_load.specs.declared.DataVar.{DataVar}
 use Rattle.data_load.specs.DataFile.{IsDataFile, data_kind}
 use Rattle.command_line.specs.Words.{options_of}
 use Rattle.command_line.specs.declared.choices.Chosen.TheVariants.{Overlap, OfflineMap, Apply}
-use Rattle.tempest_top.specs.declared.status.Status.TheVariants.{Done, Uncovered, Limit, Field}
-use Rattle.tempest_top.specs.Faults.{status_of}
+use Rattle.fault_lines.specs.declared.status.Status.TheVariants.{Done, Uncovered, Limit, Field}
+use Rattle.fault_lines.specs.Faults.{status_of}
 use Rattle.tempest_top.specs.FieldFaults.{data_words}
 use Rattle.tempest_top.specs.Fields.{plain_of, plain_document, plain_text, masked_of, masked_document, masked_text}
 use Rattle.tempest_top.specs.Outcome.{Outcome, IsOutcome, IsOutcomeOfField}

@@ -3,11 +3,11 @@ use Rattle.std.specs.Prelude.{◌≡◌, ◌≢◌, ◌⊎◌, ◌+◌, ◌≤�
 use Rattle.remap_io.specs.Causes.{Rose}
 use Rattle.remap_io.specs.Folder.{Folder}
 use Rattle.remap_io.specs.Held.{Gains, GainsPart}
-use Rattle.tempest_top.specs.declared.status.Status.{Status}
-use Rattle.tempest_top.specs.declared.status.Status.TheVariants.{Done, NoFile, ReadFault, WriteFault, NoMemory}
+use Rattle.fault_lines.specs.declared.status.Status.{Status}
+use Rattle.fault_lines.specs.declared.status.Status.TheVariants.{Done, NoFile, ReadFault, WriteFault, NoMemory}
 use Rattle.tempest_top.specs.Scene.{Scene}
-use Rattle.tempest_top.specs.Lines.{line_of, PutsText}
-use Rattle.tempest_top.specs.Faults.{read_fault_text}
+use Rattle.fault_lines.specs.Lines.{line_of, PutsText}
+use Rattle.fault_lines.specs.Faults.{read_fault_text}
 use Rattle.tempest_top.specs.Inputs.{Input, name_of_input, AreTold, IsReached, reading_cost}
 use Rattle.tempest_top.specs.Outcome.{Outcome, Output}
 use Rattle.tempest_top.specs.Promises.{IsLate, IsPartlyWritten, IsWriteFaultText, IsTextOf}

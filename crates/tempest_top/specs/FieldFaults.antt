@@ -6,10 +6,10 @@ use Rattle.exodus_mesh.specs.declared.faults.FileFault.{FileFault}
 use Rattle.map_load.specs.MapFile.{map_kind}
 use Rattle.data_load.specs.declared.DataVar.{DataVar}
 use Rattle.data_load.specs.DataFile.{data_kind}
-use Rattle.tempest_top.specs.declared.status.Status.{Status}
-use Rattle.tempest_top.specs.declared.status.Status.TheVariants.{Names, Field}
-use Rattle.tempest_top.specs.Faults.{FileWords, name_fault_text}
-use Rattle.tempest_top.specs.MapFaults.{status_of_file_fault, file_fault_text}
+use Rattle.fault_lines.specs.declared.status.Status.{Status}
+use Rattle.fault_lines.specs.declared.status.Status.TheVariants.{Names, Field}
+use Rattle.fault_lines.specs.Faults.{FileWords, name_fault_text}
+use Rattle.fault_lines.specs.RowFaults.{status_of_file_fault, file_fault_text}
 
 abbrev pub map_words : FileWords MapParts FileFault
 map_words = record { kind = map_kind; status = status_of_file_fault; text = file_fault_text }

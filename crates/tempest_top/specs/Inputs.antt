@@ -10,8 +10,8 @@ use Rattle.remap_load.specs.declared.refusal.FileRefusal.{FileRefusal}
 use Rattle.remap_load.specs.Kinds.{IsFile, IsToldRefusal, file_cost}
 use Rattle.command_line.specs.declared.choices.Chosen.{Chosen}
 use Rattle.command_line.specs.declared.choices.Chosen.TheVariants.{Cs, Rll, Ico, Overlap, OfflineMap, Apply, SelfRun, Coverage, Check}
-use Rattle.tempest_top.specs.declared.status.Status.{Status}
-use Rattle.tempest_top.specs.Faults.{FileWords, status_of, text_of, mesh_words}
+use Rattle.fault_lines.specs.declared.status.Status.{Status}
+use Rattle.fault_lines.specs.Faults.{FileWords, status_of, text_of, mesh_words}
 use Rattle.tempest_top.specs.MapFaults.{overlap_words}
 use Rattle.tempest_top.specs.FieldFaults.{map_words, data_words}
 

@@ -1,15 +1,12 @@
-pub mod Code
 pub mod CommandLaws
 pub mod Ends
-pub mod Faults
 pub mod FieldFaults
 pub mod Fields
 pub mod Inputs
-pub mod Lines
 pub mod MapFaults
 pub mod MapReading
-pub mod NameParts
 pub mod Outcome
 pub mod Promises
 pub mod Scene
 pub mod SelfRuns
+pub mod Texts

@@ -13,9 +13,10 @@ use Rattle.offline_map.specs.declared.faults.MapFault.TheVariants.{NoMemory}
 use Rattle.offline_map.specs.Maps.{row_of, map_of}
 use Rattle.offline_map.specs.MapFaults.{IsRightPiece, IsMapFaultOf, IsMappable}
 use Rattle.offline_map.specs.Making.{Making, IsMadeOf}
-use Rattle.tempest_top.specs.declared.status.Status.{Status}
-use Rattle.tempest_top.specs.Faults.{status_of, text_of}
-use Rattle.tempest_top.specs.MapFaults.{overlap_words, status_of_map_fault, map_fault_text}
+use Rattle.fault_lines.specs.declared.status.Status.{Status}
+use Rattle.fault_lines.specs.Faults.{status_of, text_of}
+use Rattle.fault_lines.specs.RowFaults.{status_of_map_fault, map_fault_text}
+use Rattle.tempest_top.specs.MapFaults.{overlap_words}
 use Rattle.tempest_top.specs.declared.map.NoMap.{NoMap}
 use Rattle.tempest_top.specs.declared.map.NoMap.TheVariants.{File, Fault}
 

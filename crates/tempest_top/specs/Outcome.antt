@@ -35,12 +35,14 @@ use Rattle.remap_chain.specs.declared.faults.ChainFault.TheVariants as of_chain
 use Rattle.remap_chain.specs.Chains.{IsChainOf, IsChainFaultOf}
 use Rattle.command_line.specs.declared.choices.Chosen.{Chosen}
 use Rattle.command_line.specs.declared.choices.Chosen.TheVariants.{Cs, Rll, Ico, Overlap, OfflineMap, Apply, SelfRun, Coverage, Check}
-use Rattle.tempest_top.specs.declared.status.Status.{Status}
-use Rattle.tempest_top.specs.declared.status.Status.TheVariants.{Done, Usage, Mesh, Uncovered, Limit, Field}
-use Rattle.tempest_top.specs.Lines.{mesh_text, pieces_text, map_text, coverage_text, report_text, line_of}
+use Rattle.fault_lines.specs.declared.status.Status.{Status}
+use Rattle.fault_lines.specs.declared.status.Status.TheVariants.{Done, Usage, Mesh, Uncovered, Limit, Field}
+use Rattle.fault_lines.specs.Lines.{line_of}
+use Rattle.tempest_top.specs.Texts.{mesh_text, pieces_text, map_text, coverage_text, report_text}
 use Rattle.tempest_top.specs.SelfRuns.{values_of_faces, chain_text}
-use Rattle.tempest_top.specs.Faults.{FileWords, status_of, text_of, mesh_words, mesh_fault_text, length_text, too_many_pieces_text}
-use Rattle.tempest_top.specs.MapFaults.{overlap_words, status_of_map_fault, map_fault_text, uncovered_text}
+use Rattle.fault_lines.specs.Faults.{FileWords, status_of, text_of, mesh_words, mesh_fault_text, length_text, too_many_pieces_text}
+use Rattle.fault_lines.specs.RowFaults.{status_of_map_fault, map_fault_text, uncovered_text}
+use Rattle.tempest_top.specs.MapFaults.{overlap_words}
 use Rattle.tempest_top.specs.FieldFaults.{map_words, data_words, no_fit_text, fill_text}
 use Rattle.tempest_top.specs.Fields.{IsFilledAt, HasNoFill, plain_document, plain_text, masked_document, masked_text}
 use Rattle.tempest_top.specs.Inputs.{inputs_of, AreTold}

@@ -8,12 +8,12 @@ use Rattle.mesh_check.specs.declared.faults.MeshFault.{MeshFault}
 use Rattle.mesh_check.specs.declared.faults.MeshFault.TheVariants.{NoMemory as NoMeshMemory}
 use Rattle.command_line.specs.declared.choices.Chosen.{Chosen}
 use Rattle.command_line.specs.declared.choices.Chosen.TheVariants.{Cs, Rll, Ico, Overlap, OfflineMap, Apply, SelfRun, Coverage, Check}
-use Rattle.tempest_top.specs.declared.status.Status.{Status}
-use Rattle.tempest_top.specs.declared.status.Status.TheVariants.{Done, Usage, NoFile, Mesh, Uncovered, Limit, ReadFault, WriteFault, NoMemory}
+use Rattle.fault_lines.specs.declared.status.Status.{Status}
+use Rattle.fault_lines.specs.declared.status.Status.TheVariants.{Done, Usage, NoFile, Mesh, Uncovered, Limit, ReadFault, WriteFault, NoMemory}
 use Rattle.tempest_top.specs.Scene.{Scene}
-use Rattle.tempest_top.specs.Lines.{line_of, PutsText}
-use Rattle.tempest_top.specs.Faults.{mesh_fault_text, length_text, too_many_pieces_text, read_fault_text}
-use Rattle.tempest_top.specs.MapFaults.{IsMapText, uncovered_text}
+use Rattle.fault_lines.specs.Lines.{line_of, PutsText}
+use Rattle.fault_lines.specs.Faults.{mesh_fault_text, length_text, too_many_pieces_text, read_fault_text}
+use Rattle.fault_lines.specs.RowFaults.{IsMapText, uncovered_text}
 use Rattle.tempest_top.specs.FieldFaults.{IsFieldFaultText}
 use Rattle.tempest_top.specs.Inputs.{Input, name_of_input, inputs_of, output_of, IsReached, IsInputText, reading_cost}
 use Rattle.tempest_top.specs.Outcome.{Output, TheOutcome, is_usage}

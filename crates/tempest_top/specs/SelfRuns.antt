@@ -7,10 +7,10 @@ use Rattle.map_rows.specs.Application.{source_mass_of, target_mass_of}
 use Rattle.remap_chain.specs.declared.whole.ChainOut.{ChainOut}
 use Rattle.remap_chain.specs.declared.faults.ChainFault.{ChainFault}
 use Rattle.remap_chain.specs.declared.faults.ChainFault.TheVariants.{TooManyPieces, Uncovered as NoSource, Length, NoMemory as NoChainMemory}
-use Rattle.tempest_top.specs.declared.status.Status.{Status}
-use Rattle.tempest_top.specs.declared.status.Status.TheVariants.{Uncovered, Limit, Field, NoMemory}
-use Rattle.tempest_top.specs.Faults.{too_many_pieces_text}
-use Rattle.tempest_top.specs.MapFaults.{uncovered_text}
+use Rattle.fault_lines.specs.declared.status.Status.{Status}
+use Rattle.fault_lines.specs.declared.status.Status.TheVariants.{Uncovered, Limit, Field, NoMemory}
+use Rattle.fault_lines.specs.Faults.{too_many_pieces_text}
+use Rattle.fault_lines.specs.RowFaults.{uncovered_text}
 
 -- the value at a source face, which counts from 1
 abbrev pub value_of_face : ℕ → ℤ

@@ -5,16 +5,16 @@ ghost use Rattle.cover_check.specs.declared.counting.CoverCount.{CoverCount as C
 ghost use Rattle.cover_check.specs.CoveredTargets.{IsCoverCount};
 ghost use Rattle.command_line.specs.declared.choices.Chosen.TheVariants.{Coverage as CoverageOf};
 ghost use Rattle.tempest_top.specs.Scene.{scene};
-ghost use Rattle.tempest_top.specs.Lines.{coverage_text};
+ghost use Rattle.tempest_top.specs.Texts.{coverage_text};
 ghost use Rattle.tempest_top.specs.Outcome.{IsOutcomeOfCoverage};
 ghost use Rattle.tempest_top.specs.Ends.{Comes};
 ghost use Rattle.tempest_top.specs.Promises.{NoText, Keeps};
 
-use crate::Status;
-use crate::finish::{put_text_alone, refuse_memory};
+use crate::finish::put_text_alone;
 use crate::inputs::{mesh_of, refuse_mesh};
 use command_line::Text;
 use cover_check::coverage;
+use fault_lines::{Status, refuse_memory};
 use mesh_check::{Mesh, face_count};
 use remap_io::{Files, Sink};
 use std::alloc::Global;

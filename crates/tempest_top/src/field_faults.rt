@@ -1,15 +1,12 @@
 // The lines of faults of map files and data files, and of variables that a map makes no field of.
 ghost use Rattle.std.specs.Prelude.{◌≡◌};
-ghost use Rattle.tempest_top.specs.Lines.{PutsText};
-ghost use Rattle.tempest_top.specs.Faults.{status_of, text_of};
+ghost use Rattle.fault_lines.specs.Lines.{PutsText};
+ghost use Rattle.fault_lines.specs.Faults.{status_of, text_of};
 ghost use Rattle.tempest_top.specs.FieldFaults.{map_words, data_words, no_fit_text, fill_text};
 
-use crate::Status;
-use crate::faults::{put_name_fault, put_numbered, refuse_load};
-use crate::lines::put_line;
-use crate::map_faults::refuse_file_fault;
 use command_line::Text;
 use data_load::DataRefusal;
+use fault_lines::{Status, put_line, put_name_fault, put_numbered, refuse_file_fault, refuse_load};
 use itoa::Buffer;
 use map_load::MapRefusal;
 use remap_io::Sink;

@@ -5,13 +5,12 @@ ghost use Rattle.nc_write.specs.File.{file_of};
 ghost use Rattle.nc_write.specs.Form.{IsWellFormed};
 ghost use Rattle.nc_write.specs.Made.{made_doc};
 ghost use Rattle.tempest_top.specs.Scene.{scene};
-ghost use Rattle.tempest_top.specs.Lines.{PutsText};
+ghost use Rattle.fault_lines.specs.Lines.{PutsText};
 ghost use Rattle.tempest_top.specs.Outcome.{text_alone, written};
 ghost use Rattle.tempest_top.specs.Ends.{Ends};
 
-use crate::Status;
 use crate::document::DocumentFile;
-use crate::lines::put_line;
+use fault_lines::{Status, put_line};
 use nc_write::{Listed, LongNumbers, NcDoc};
 use remap_io::{Files, PutErr, Sink};
 use std::alloc::Global;
@@ -92,22 +91,4 @@ pub fn write_then_text<F: Files, O: Sink, E: Sink>(
     ensures no_reads { (F.seen files.new).taken ≡ (F.seen files.old).taken }
 {
     write_made_then_text(alloc, files, out, err, name, doc, &Listed, text)
-}
-
-/// Puts the line that memory ran out.
-pub fn refuse_memory<E: Sink>(err: &mut E) -> Status
-    ensures status { result ≡ Status.NoMemory }
-    ensures line { PutsText (E.seen err.old) (E.seen err.new) (codes "no memory") }
-{
-    put_line(err, &["no memory"]);
-    Status::NoMemory
-}
-
-/// Puts the line that the words are out of the grammar.
-pub fn refuse_usage<E: Sink>(err: &mut E) -> Status
-    ensures status { result ≡ Status.Usage }
-    ensures line { PutsText (E.seen err.old) (E.seen err.new) (codes "usage") }
-{
-    put_line(err, &["usage"]);
-    Status::Usage
 }

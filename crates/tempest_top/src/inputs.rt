@@ -3,12 +3,11 @@ ghost use Rattle.std.specs.Prelude.{◌≡◌, ◌≤◌, ◌+◌, IfOk, IfErr, 
 ghost use Rattle.remap_io.specs.Folder.{OnFile};
 ghost use Rattle.remap_io.specs.Outside.{OnlyReads};
 ghost use Rattle.remap_load.specs.Kinds.{HasContent, IsFileRefusal, file_cost};
-ghost use Rattle.tempest_top.specs.Lines.{PutsText};
-ghost use Rattle.tempest_top.specs.Faults.{mesh_words, status_of, text_of};
+ghost use Rattle.fault_lines.specs.Lines.{PutsText};
+ghost use Rattle.fault_lines.specs.Faults.{mesh_words, status_of, text_of};
 
-use crate::Status;
-use crate::faults::refuse_mesh_file;
 use command_line::Text;
+use fault_lines::{Status, refuse_mesh_file};
 use mesh_check::Mesh;
 use mesh_load::{MeshRefusal, load_mesh};
 use remap_io::{Files, Sink};

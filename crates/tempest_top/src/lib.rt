@@ -3,7 +3,6 @@
 
 mod cover;
 mod document;
-mod faults;
 mod field;
 mod field_docs;
 mod field_faults;
@@ -11,17 +10,15 @@ mod finish;
 mod generate;
 mod inputs;
 mod laws;
-mod lines;
 mod map;
 mod map_faults;
 mod pairs;
 mod report;
 mod rests;
 mod self_run;
-mod status;
 mod top;
 
 pub use command_line::{Chosen, OptFault, Text, options};
+pub use fault_lines::Status;
 pub use laws::{law_commands, law_one_outcome, law_three_commands};
-pub use status::Status;
 pub use top::run;

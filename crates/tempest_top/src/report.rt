@@ -3,16 +3,15 @@ ghost use Rattle.std.specs.Prelude.{◌≡◌, ◌≤◌, [], IfOk, None, Some, 
 ghost use Rattle.remap_io.specs.Outside.{FilesSeen};
 ghost use Rattle.command_line.specs.declared.choices.Chosen.TheVariants.{Check as CheckOf};
 ghost use Rattle.tempest_top.specs.Scene.{scene};
-ghost use Rattle.tempest_top.specs.Lines.{yes_or_no, faces_text, edges_text, covered_text, report_text};
+ghost use Rattle.tempest_top.specs.Texts.{yes_or_no, faces_text, edges_text, covered_text, report_text};
 ghost use Rattle.tempest_top.specs.Outcome.{IsOutcomeOfReport};
 ghost use Rattle.tempest_top.specs.Ends.{Comes};
 ghost use Rattle.tempest_top.specs.Promises.{IsPiecesText, Keeps};
 
-use crate::Status;
-use crate::faults::refuse_run;
-use crate::finish::{put_text_alone, refuse_memory};
+use crate::finish::put_text_alone;
 use crate::inputs::{mesh_of, refuse_mesh};
 use command_line::Text;
+use fault_lines::{Status, refuse_memory, refuse_run};
 use mesh_check::{Mesh, face_count};
 use mesh_partition::{MeshReport, report};
 use remap_io::{Files, Sink};

@@ -8,16 +8,15 @@ ghost use Rattle.tempest_top.specs.Inputs.{inputs_of, reading_cost};
 ghost use Rattle.tempest_top.specs.Outcome.{TheOutcome, is_usage};
 ghost use Rattle.tempest_top.specs.Promises.{IsAnswer, FolderAfterRefusal, TextAfterRefusal, PutsLine, Keeps};
 
-use crate::Status;
 use crate::cover::check_coverage;
 use crate::field::apply_offline_map;
-use crate::finish::{refuse_memory, refuse_usage};
 use crate::generate::{generate_cs, generate_ico, generate_rll};
 use crate::map::generate_map;
 use crate::pairs::generate_overlap;
 use crate::report::check_mesh;
 use crate::self_run::self_run;
 use command_line::{Chosen, OptFault, options};
+use fault_lines::{Status, refuse_memory, refuse_usage};
 use remap_io::{Files, Sink};
 use std::alloc::Global;
 use std::thread::Threads;

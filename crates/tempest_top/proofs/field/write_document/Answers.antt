@@ -2,8 +2,8 @@ use Rattle.std.proofs.Common.{rules, ◌≡◌, ◌≤◌, List, ℕ, length, re
 use Rattle.nc_write.specs.File.{file_of}
 use Rattle.nc_write.specs.Made.{made_doc}
 use Rattle.tempest_top.specs.Scene.{scene}
-use Rattle.tempest_top.specs.Lines.{PutsText}
-use Rattle.tempest_top.specs.Faults.{length_text}
+use Rattle.fault_lines.specs.Lines.{PutsText}
+use Rattle.fault_lines.specs.Faults.{length_text}
 use Rattle.tempest_top.specs.Outcome.{written}
 use Rattle.tempest_top.specs.Ends.{Ends}
 use Rattle.tempest_top.proofs.FieldEnds.{comes_too_long, comes_put}

@@ -2,7 +2,7 @@ use Rattle.std.proofs.Common.{◌≡◌, ◌∙◌, ℕ, refl, ap, subst}
 use Rattle.map_rows.specs.Maps.{MapParts}
 use Rattle.field_files.specs.FieldShapes.{field_over}
 use Rattle.tempest_top.specs.Scene.{scene}
-use Rattle.tempest_top.specs.Lines.{PutsText}
+use Rattle.fault_lines.specs.Lines.{PutsText}
 use Rattle.tempest_top.specs.FieldFaults.{no_fit_text}
 use Rattle.tempest_top.proofs.FieldEnds.{comes_no_fit, comes_fit_plain, comes_fit_masked}
 use Rattle.tempest_top.proofs.LaidOver.{lies_over}

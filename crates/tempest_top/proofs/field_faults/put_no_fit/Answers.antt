@@ -1,6 +1,6 @@
 use Rattle.std.proofs.Common.{codes}
-use Rattle.tempest_top.specs.Lines.{PutsText}
-use Rattle.tempest_top.proofs.MapTexts.{text_of_five}
+use Rattle.fault_lines.specs.Lines.{PutsText}
+use Rattle.fault_lines.proofs.MapTexts.{text_of_five}
 use Rattle.tempest_top.proofs.field_faults.put_no_fit.Goals as goal
 
 pub returns : goal.returns

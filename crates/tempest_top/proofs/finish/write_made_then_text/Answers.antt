@@ -3,9 +3,9 @@ use Rattle.nc_write.specs.File.{file_of}
 use Rattle.nc_write.specs.Made.{made_doc}
 use Rattle.remap_io.specs.Causes.{Rose}
 use Rattle.remap_io.specs.Folder.{IsPartlyReplaced}
-use Rattle.tempest_top.specs.Lines.{PutsText}
+use Rattle.fault_lines.specs.Lines.{PutsText}
 use Rattle.tempest_top.specs.Scene.{scene}
-use Rattle.tempest_top.proofs.Pieces.{text_of_two}
+use Rattle.fault_lines.proofs.Pieces.{text_of_two}
 use Rattle.tempest_top.proofs.Written.{ends_written, ends_failed}
 use Rattle.tempest_top.proofs.finish.write_made_then_text.Goals as goal
 

@@ -3,7 +3,8 @@ use Rattle.vec_exact.specs.declared.RawMesh.{RawMesh}
 use Rattle.clip.specs.Overlaps.{OverlapParts}
 use Rattle.command_line.specs.declared.choices.Chosen.TheVariants.{OfflineMap}
 use Rattle.tempest_top.specs.Scene.{scene}
-use Rattle.tempest_top.specs.MapFaults.{overlap_words, IsMapText}
+use Rattle.fault_lines.specs.RowFaults.{IsMapText}
+use Rattle.tempest_top.specs.MapFaults.{overlap_words}
 use Rattle.tempest_top.specs.MapReading.{IsMapOfFile, IsNoMap}
 use Rattle.tempest_top.specs.Inputs.{OverlapFile}
 use Rattle.tempest_top.specs.Outcome.{IsOutcomeOfMap}

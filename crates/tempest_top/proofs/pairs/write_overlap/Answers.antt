@@ -4,8 +4,8 @@ use Rattle.remap_files.specs.OverlapDocument.{overlap_document}
 use Rattle.tempest_top.specs.Outcome.{written}
 use Rattle.tempest_top.specs.Ends.{Ends}
 use Rattle.tempest_top.specs.Scene.{scene}
-use Rattle.tempest_top.specs.Lines.{PutsText}
-use Rattle.tempest_top.specs.Faults.{length_text}
+use Rattle.fault_lines.specs.Lines.{PutsText}
+use Rattle.fault_lines.specs.Faults.{length_text}
 use Rattle.tempest_top.proofs.Coming.{comes_stopped}
 use Rattle.tempest_top.proofs.Endings.{comes_long, comes_written}
 use Rattle.tempest_top.proofs.pairs.write_overlap.Goals as goal

@@ -2,7 +2,7 @@ use Rattle.std.proofs.Common.{[], Some, None, refl}
 use Rattle.vec_exact.specs.declared.RawMesh.{RawMesh}
 use Rattle.command_line.specs.declared.choices.Chosen.TheVariants.{Check}
 use Rattle.tempest_top.specs.Scene.{scene}
-use Rattle.tempest_top.specs.Faults.{mesh_words}
+use Rattle.fault_lines.specs.Faults.{mesh_words}
 use Rattle.tempest_top.specs.Inputs.{MeshFile}
 use Rattle.tempest_top.specs.Outcome.{IsOutcomeOfReport}
 use Rattle.tempest_top.specs.Promises.{IsPiecesText}

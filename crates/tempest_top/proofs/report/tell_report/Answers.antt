@@ -4,11 +4,11 @@ use Rattle.overlap_run.specs.declared.faults.RunFault.{RunFault}
 use Rattle.overlap_run.specs.declared.faults.RunFault.TheVariants.{TooManyPieces, NoMemory as NoRunMemory}
 use Rattle.overlap_run.specs.Pairs.{IsPairCount}
 use Rattle.overlap_run.specs.Whole.{IsRefusalOf}
-use Rattle.tempest_top.specs.declared.status.Status.{Status}
-use Rattle.tempest_top.specs.declared.status.Status.TheVariants.{Limit}
+use Rattle.fault_lines.specs.declared.status.Status.{Status}
+use Rattle.fault_lines.specs.declared.status.Status.TheVariants.{Limit}
 use Rattle.tempest_top.specs.Scene.{Scene, scene}
-use Rattle.tempest_top.specs.Lines.{PutsText}
-use Rattle.tempest_top.specs.Faults.{too_many_pieces_text, run_text, status_of_run}
+use Rattle.fault_lines.specs.Lines.{PutsText}
+use Rattle.fault_lines.specs.Faults.{too_many_pieces_text, run_text, status_of_run}
 use Rattle.tempest_top.specs.Outcome.{IsOutcomeOfReport, text_alone}
 use Rattle.tempest_top.specs.Promises.{IsPiecesText}
 use Rattle.tempest_top.specs.Ends.{Comes}

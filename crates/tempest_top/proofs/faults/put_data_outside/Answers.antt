@@ -1,7 +1,0 @@
-use Rattle.std.proofs.Common.{codes}
-use Rattle.tempest_top.specs.Lines.{PutsText}
-use Rattle.tempest_top.proofs.Pieces.{text_of_four}
-use Rattle.tempest_top.proofs.faults.put_data_outside.Goals as goal
-
-pub returns : goal.returns
-returns g c = text_of_four (PutsText (g.E.Sink.seen c.args.err.now) (g.E.Sink.seen c.put_line.new.err)) c.args.file.now (codes ": data of variable ") c.format.result.now _ (codes " outside file") c.format.ensures.text c.put_line.ensures.line
