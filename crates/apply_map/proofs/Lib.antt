@@ -1,4 +1,4 @@
 pub mod MassSteps
 pub mod SumSteps
 pub mod Slices
-pub mod RestPlaces
+pub mod Parts

@@ -11,11 +11,7 @@ use Rattle.map_rows.specs.Targets.{groups_of}
 use Rattle.map_rows.proofs.Groups.{count_next, count_most, length-groups_of}
 use Rattle.map_rows.proofs.Bounds.{target_area, target_covered}
 use Rattle.apply_map.specs.Values.{HasValue, carried}
-use Rattle.map_rows.specs.Application.{area_at, divided, share_at, application_of, whole_of, wholes_of}
-use Rattle.map_rows.specs.Places.{IsPut}
-use Rattle.map_rows.proofs.Masses.{length-application_of, part_in}
-use Rattle.map_rows.proofs.Places.{all_put}
-use Rattle.apply_map.specs.Fields.{whole_at}
+use Rattle.map_rows.specs.Application.{area_at, divided, share_at}
 use Rattle.apply_map.specs.Ready.{area_of, areas_of, AreTargetsOf}
 use Rattle.map_rows.proofs.FaceSums.{length-sums_of}
 
@@ -64,9 +60,6 @@ rows_at m values slice first j rows got s c e l is a =
       share = ap (λ (f : ℕ). divided (total (map (carried values f) mine)) (area_at m.area_b (1 + j))) e;
     }))
 
-pub slice_within : (slice to n count : ℕ) → slice < to → to * n ≤ count → (slice + 1) * n ≤ count
-slice_within slice to n count l h = grind arith
-
 -- A map made ready.
 
 -- one divisor more
@@ -90,17 +83,6 @@ target_ready m values slice first j groups divisors rows d e t c f l is at =
     let below : j < length divisors = omega (arith, l, divisors_size m groups divisors t) in
     let area = ap area_of at ∙ sym (get_or-map area_of divisors j e (pos 0) below) ∙ ap (λ (xs : List ℤ). get_or xs j (pos 0)) t.areas_are in
     rows_at m values slice first j rows d.area t.sound c f l mine area
-
--- what `whole_parts` writes is of the application
-pub all_wholes : (m : MapParts) (slices : ℕ) (values old new : List ℤ) → IsSoundMap m → length old ≡ slices * m.n_b → IsPut m.n_b (whole_at m values) 0 slices 0 m.n_b old new
-    → new ≡ wholes_of (application_of m slices values)
-all_wholes m slices values old new s size h =
-    all_put m.n_b (whole_at m values) slices old new (wholes_of (application_of m slices values)) s.target_faces.0 size
-    (length-map (application_of m slices values) whole_of ∙ length-application_of m slices values)
-    (λ slice k l below.
-    let place : k ≡ 1 + k - 1 = omega arith in
-    ap (λ (i : ℕ). get_or (wholes_of (application_of m slices values)) (slice * m.n_b + i) (pos 0)) place
-    ∙ part_in m slices values slice (1 + k) whole_of l (omega arith) (omega (arith, below))) h
 
 -- what holds of two lists holds of their equals
 pub of_equals : (P : List ℤ → List ℤ → Type 0) (a b c d : List ℤ) → a ≡ b → c ≡ d → P b d → P a c

@@ -1,3 +1,4 @@
 pub mod Values
 pub mod Fields
 pub mod Ready
+pub mod Parts

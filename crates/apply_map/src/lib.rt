@@ -5,13 +5,13 @@ mod application;
 mod fields;
 mod fill;
 mod masses;
-mod rests;
+mod numbers;
 mod sums;
 mod targets;
 
-pub use application::{apply, whole_parts};
+pub use application::apply;
 pub use fields::{ApplyFault, Field};
 pub use fill::fill_at;
 pub use masses::{mass_of_slice, source_mass, target_mass};
-pub use rests::put_rests;
+pub use numbers::{put_rests, put_wholes};
 pub use targets::{Targets, targets_of};

@@ -1,16 +1,14 @@
 // A map made ready for many slices.
 ghost use Rattle.std.specs.Prelude.{◌≡◌, ◌+◌, ◌*◌, ◌<◌, ◌≤◌, pos, ◌≤ℤ◌, All, IfOk, length, map};
 ghost use Rattle.map_rows.specs.Maps.{total, measure_of, HasMeasure};
-ghost use Rattle.map_rows.specs.Application.{divided};
-ghost use Rattle.map_rows.specs.Places.{IsPut};
-ghost use Rattle.apply_map.specs.Fields.{whole_at, rest_at};
+ghost use Rattle.map_rows.specs.Application.{divided, application_of, wholes_of, rests_of};
+ghost use Rattle.apply_map.specs.Parts.{IsTargetPut};
 ghost use Rattle.apply_map.specs.Ready.{areas_of};
 ghost use Rattle.apply_map.specs.Values.{HasValue, carried};
 
+use crate::numbers::first_slice;
 use crate::sums::weighted_sum;
-use map_rows::{
-    Block, Divisor, Map, MapRow, Share, TargetRows, divisor_of, rows_by_target, share_by,
-};
+use map_rows::{Divisor, Map, MapRow, Share, TargetRows, divisor_of, rows_by_target, share_by};
 use std::alloc::{AllocError, Global};
 use std::marker::Model;
 
@@ -57,35 +55,63 @@ impl<'a> Targets<'a> {
         self.map
     }
 
-    /// What the target at place `j` gets in a slice of a field, both from 0.
-    pub fn share(&self, j: usize, slice: usize, values: &[i32]) -> Share
+    // Puts the whole parts of what the target at place `j` gets, where they stand in the part of the field
+    // that begins at the place `from`. Its rows are read once for all of them.
+    pub(crate) fn put_target_wholes(
+        &self,
+        j: usize,
+        slices: u32,
+        values: &[i32],
+        from: usize,
+        into: &mut [i32],
+    )
         requires target { j < self.now.n_b }
-        requires values { (slice + 1) * self.now.n_a ≤ length values.now }
-        ensures whole { result.whole ≡ whole_at self.now values.now slice j }
-        ensures rest { result.rest ≡ rest_at self.now values.now slice j }
+        requires counts { length values.now ≡ slices * self.now.n_a }
+        requires within { from + length into.old ≤ slices * self.now.n_b }
+        ensures { IsTargetPut self.now.n_b (wholes_of (application_of self.now slices values.now))
+            from j into.old into.new }
     {
         let map = self.map;
         let rows = self.rows.of(j as u32 + 1);
         let divisor = self.divisors[j];
-        target_share(rows, divisor, slice * map.n_a as usize, values)
+        let count = map.n_b as usize;
+        let mut slice = first_slice(from, j, count);
+        let mut at = slice * count + j - from;
+        while at < into.len() {
+            let share = target_share(rows, divisor, slice * map.n_a as usize, values);
+            into[at] = share.whole;
+            slice += 1;
+            at += count;
+        }
     }
 
-    /// Puts the whole parts of what the target at place `j` gets in the slices of a block. Its rows
-    /// are read once for all of them.
-    pub fn put_wholes(&self, j: usize, block: Block, values: &[i32], whole: &mut [i32])
+    // Puts the rests of what the target at place `j` gets, where they stand in the part of the field
+    // that begins at the place `from`. Its rows are read once for all of them.
+    pub(crate) fn put_target_rests(
+        &self,
+        j: usize,
+        slices: u32,
+        values: &[i32],
+        from: usize,
+        into: &mut [i64],
+    )
         requires target { j < self.now.n_b }
-        requires order { block.from ≤ block.to }
-        requires values { block.to * self.now.n_a ≤ length values.now }
-        requires whole { block.to * self.now.n_b ≤ length whole.old }
-        ensures { IsPut self.now.n_b (whole_at self.now values.now) block.from block.to j (j + 1)
-            whole.old whole.new }
+        requires counts { length values.now ≡ slices * self.now.n_a }
+        requires within { from + length into.old ≤ slices * self.now.n_b }
+        ensures { IsTargetPut self.now.n_b (rests_of (application_of self.now slices values.now))
+            from j into.old into.new }
     {
         let map = self.map;
         let rows = self.rows.of(j as u32 + 1);
         let divisor = self.divisors[j];
-        for slice in block.from..block.to {
-            let share = target_share(rows, divisor, slice as usize * map.n_a as usize, values);
-            whole[slice as usize * map.n_b as usize + j] = share.whole;
+        let count = map.n_b as usize;
+        let mut slice = first_slice(from, j, count);
+        let mut at = slice * count + j - from;
+        while at < into.len() {
+            let share = target_share(rows, divisor, slice * map.n_a as usize, values);
+            into[at] = share.rest;
+            slice += 1;
+            at += count;
         }
     }
 }

@@ -7,7 +7,7 @@ use Rattle.nc_write.specs.declared.Values.{Values}
 use Rattle.nc_write.specs.declared.Values.TheVariants.{Int, Long}
 use Rattle.nc_write.specs.File.{numbers_of}
 use Rattle.nc_write.specs.Form.{IsWellFormed}
-use Rattle.nc_write.specs.Made.{made_doc}
+use Rattle.nc_write.specs.Made.{made_doc, of_lists}
 use Rattle.nc_format.specs.declared.NcFile.{NcFile}
 use Rattle.field_files.specs.declared.FieldVar.{FieldVar}
 use Rattle.field_files.specs.FileHeader.{IsFileHeader}
@@ -28,10 +28,10 @@ field_form file n_a field n_b whole rest header fits least most wholes rests =
     document_form file field field.slices n_b [] vars (is_led file field n_b least most h) (lit≤ tt) (All-from_recursion (λ (a : DocAtt). length a.name < 2 ^ 31) [] tt) (lit≤ tt)
     (All-from_recursion P vars (var_over file field [] (Int whole) (field.slices * n_b) h (lit≤ tt) wholes, (var_over file field (codes "_rest") (Long rest) (field.slices * n_b) h (lit≤ tt) rests, tt)))
 
--- a document stands for that with any other rests
-pub made_field : (file : NcFile) (field : FieldVar) (n_b : ℕ) (whole listed rest : List ℤ) → made_doc (λ _. rest) (field_document file field n_b whole listed) ≡ field_document file field n_b whole rest
+-- a document stands for that with any other numbers
+pub made_field : (file : NcFile) (field : FieldVar) (n_b : ℕ) (ints longs whole rest : List ℤ) → made_doc (of_lists whole rest) (field_document file field n_b ints longs) ≡ field_document file field n_b whole rest
 unfolding field_document
-made_field file field n_b whole listed rest = refl
+made_field file field n_b ints longs whole rest = refl
 
 few_atts : (fill : Option ℤ) → length (fill_atts fill) ≤ 1
 few_atts None = lit≤ tt

@@ -2,7 +2,7 @@
 ghost use Rattle.std.specs.Prelude.{◌≡◌, ◌≤◌, ◌<◌, ◌*◌, ◌++◌, ◌^◌, ℕ, ℤ, List, [], ◌∷◌, All, IfOk, length, codes, slice_get};
 ghost use Rattle.std.specs.Option.{option_map};
 ghost use Rattle.nc_write.specs.Form.{IsWellFormed, HasShortLists};
-ghost use Rattle.nc_write.specs.Made.{made_doc};
+ghost use Rattle.nc_write.specs.Made.{made_doc, of_lists};
 ghost use Rattle.nc_write.specs.declared.Values.TheVariants.{Long};
 ghost use Rattle.field_files.specs.FileHeader.{IsFileHeader};
 ghost use Rattle.field_files.specs.FieldShapes.{Fits};
@@ -175,31 +175,33 @@ pub fn field_doc(
     Ok(doc)
 }
 
-/// The same with an empty list for the rests, for a file whose rests are made while it is written
-/// (`write_made` of `nc_write`): it stands for the document of the field with any rests.
+/// The same with empty lists, for a file whose numbers are made while it is written (`write_made` of
+/// `nc_write`): it stands for the document of the field with any whole parts and rests.
 pub fn field_frame_doc(
     alloc: Global,
     file: &NcFile,
     field: FieldVar,
     n_b: u32,
-    whole: Ints,
 ) -> Result<NcDoc, NoMemory>
     requires header { IsFileHeader file.now }
     requires field { (n_a : ℕ) × Fits file.now n_a field }
     requires some_target { 1 ≤ n_b }
     requires few_targets { n_b ≤ 1048576 }
-    requires whole { length whole ≡ field.slices * n_b }
-    ensures document { IfOk result (λ doc. (rest : List ℤ)
-        → made_doc (λ _. rest) doc ≡ field_document file.now field n_b whole rest) }
-    // With as many rests as whole parts it is a document that can be written.
-    ensures well_formed { IfOk result (λ doc. (rest : List ℤ)
-        → length rest ≡ field.slices * n_b → IsWellFormed (made_doc (λ _. rest) doc)) }
+    ensures document { IfOk result (λ doc. (whole rest : List ℤ)
+        → made_doc (of_lists whole rest) doc ≡ field_document file.now field n_b whole rest) }
+    // With as many of both as the dimensions say it is a document that can be written.
+    ensures well_formed { IfOk result (λ doc. (whole rest : List ℤ)
+        → length whole ≡ field.slices * n_b → length rest ≡ field.slices * n_b
+        → IsWellFormed (made_doc (of_lists whole rest) doc)) }
     ensures short { IfOk result HasShortLists }
 {
-    let none = Longs {
+    let whole = Ints {
         items: Vec::new(alloc),
     };
-    let doc = make_document(alloc, file, field, n_b, whole, none)?;
+    let rest = Longs {
+        items: Vec::new(alloc),
+    };
+    let doc = make_document(alloc, file, field, n_b, whole, rest)?;
     Ok(doc)
 }
 

@@ -1,5 +1,5 @@
 -- What each target gets of what is present.
-use Rattle.std.proofs.Common.{◌≡◌, ℕ, ◌*◌, ℤ, pos, List, map, ap₂, ◌∙◌, Option}
+use Rattle.std.proofs.Common.{◌≡◌, ℕ, ◌+◌, ◌*◌, ◌<◌, ◌≤◌, ℤ, pos, List, map, ap₂, ◌∙◌, Option, arith}
 use Rattle.std.specs.List.{filter}
 use Rattle.map_rows.specs.declared.rows.MapRow.{MapRow}
 use Rattle.map_rows.specs.Maps.{MapParts, total, measure_of, target_of, rows_of}
@@ -24,3 +24,7 @@ pub field_is : (m : MapParts) (slices : ℕ) (fill : Option ℤ) (values whole r
     → rest ≡ map masked_rest (masked_application_of m slices fill values) → part ≡ map masked_part (masked_application_of m slices fill values)
     → ◌≡◌ {A = MaskedField} (record { whole = whole; rest = rest; part = part }) (masked_field_of (masked_application_of m slices fill values))
 field_is m slices fill values whole rest part f g h = λ i. record { whole = f i; rest = g i; part = h i }
+
+-- the slice is one of those before `to`
+pub slice_within : (slice to n count : ℕ) → slice < to → to * n ≤ count → (slice + 1) * n ≤ count
+slice_within slice to n count l h = grind arith

@@ -7,19 +7,16 @@ ghost use Rattle.nc_write.specs.declared.NcKind.TheVariants as kinds;
 ghost use Rattle.nc_write.specs.Kinds.{size_of, value};
 ghost use Rattle.nc_write.specs.Extents.{pad_len};
 ghost use Rattle.nc_write.specs.File.{kind_of, numbers_of, value_bytes, padded_if, fixed_data, record_data, record_of, data_of, pads_records};
-ghost use Rattle.nc_write.specs.Made.{made_values, made_var, made_doc};
+ghost use Rattle.nc_write.specs.Made.{Made, made_values, made_var, made_doc};
 ghost use Rattle.nc_write.specs.Form.{HasItsValues};
 
-use crate::longs::{LongNumbers, Room};
+use crate::made_numbers::Room;
 use crate::sizes::{is_record_var, pads_records};
 use crate::spell::put_padding;
-use crate::{DocVar, NcDoc, Values};
+use crate::{DocVar, MadeNumbers, NcDoc, PART, Values};
 use byteorder::{BigEndian, ByteOrder};
 use std::alloc::AllocError;
 use std::io::{self, Write};
-
-/// The bytes of a part.
-pub const PART: usize = 65_536;
 
 // Makes the room as long as so many values of a size. What stands in it then is open; where it was
 // as long before, nothing is filled.
@@ -70,68 +67,108 @@ fn spell_longs(room: &mut Vec<u8>, numbers: &[i64]) -> Result<(), AllocError>
     Ok(())
 }
 
-// Spells the numbers that a list stands for, from one place up to another.
-fn spell_made<M: LongNumbers>(
+// Writes numbers of 32 bits, spelled part by part.
+fn write_ints<W: Write>(out: &mut W, bytes: &mut Vec<u8>, numbers: &[i32]) -> io::Result<()>
+    ensures { OnOk result (Appends (W.contents out.old) (W.contents out.new)
+        (value_bytes kinds.Int numbers.now)) }
+{
+    let mut at = 0;
+    while at < numbers.len() {
+        let next = at + (PART / 4).min(numbers.len() - at);
+        spell_ints(bytes, &numbers[at..next])?;
+        out.write_all(bytes)?;
+        at = next;
+    }
+    Ok(())
+}
+
+// Writes numbers of 64 bits, spelled part by part.
+fn write_longs<W: Write>(out: &mut W, bytes: &mut Vec<u8>, numbers: &[i64]) -> io::Result<()>
+    ensures { OnOk result (Appends (W.contents out.old) (W.contents out.new)
+        (value_bytes kinds.Int64 numbers.now)) }
+{
+    let mut at = 0;
+    while at < numbers.len() {
+        let next = at + (PART / 8).min(numbers.len() - at);
+        spell_longs(bytes, &numbers[at..next])?;
+        out.write_all(bytes)?;
+        at = next;
+    }
+    Ok(())
+}
+
+// Writes signed bytes.
+fn write_bytes<W: Write>(out: &mut W, bytes: &mut Vec<u8>, numbers: &[i8]) -> io::Result<()>
+    ensures { OnOk result (Appends (W.contents out.old) (W.contents out.new)
+        (value_bytes kinds.Byte numbers.now)) }
+{
+    spell_bytes(bytes, numbers)?;
+    out.write_all(bytes)?;
+    Ok(())
+}
+
+// Makes and writes the numbers that a list of 32-bit numbers stands for, from one place up to
+// another.
+fn write_made_ints<W: Write, M: MadeNumbers>(
+    out: &mut W,
+    room: &mut Room,
+    made: &M,
+    listed: &[i32],
+    from: usize,
+    to: usize,
+) -> io::Result<()>
+    requires order { from ≤ to }
+    requires within { to ≤ length ((M.numbers made.now).ints listed.now) }
+    ensures { OnOk result (Appends (W.contents out.old) (W.contents out.new)
+        (value_bytes kinds.Int (slice_range ((M.numbers made.now).ints listed.now) from to))) }
+{
+    room.ints.resize(to - from, 0)?;
+    made.put_ints(listed, from, &mut room.ints);
+    write_ints(out, &mut room.bytes, &room.ints)
+}
+
+// Makes and writes the numbers that a list of 64-bit numbers stands for, from one place up to
+// another.
+fn write_made_longs<W: Write, M: MadeNumbers>(
+    out: &mut W,
     room: &mut Room,
     made: &M,
     listed: &[i64],
     from: usize,
     to: usize,
-) -> Result<(), AllocError>
+) -> io::Result<()>
     requires order { from ≤ to }
-    requires within { to ≤ length (M.numbers made.now listed.now) }
-    ensures { OnOk result (room.new.bytes.items ≡ value_bytes kinds.Int64
-        (slice_range (M.numbers made.now listed.now) from to)) }
+    requires within { to ≤ length ((M.numbers made.now).longs listed.now) }
+    ensures { OnOk result (Appends (W.contents out.old) (W.contents out.new)
+        (value_bytes kinds.Int64 (slice_range ((M.numbers made.now).longs listed.now) from to))) }
 {
     room.longs.resize(to - from, 0)?;
-    made.put(listed, from, &mut room.longs);
-    spell_longs(&mut room.bytes, &room.longs)
+    made.put_longs(listed, from, &mut room.longs);
+    write_longs(out, &mut room.bytes, &room.longs)
 }
 
-fn values_len<M: LongNumbers>(made: &M, values: &Values) -> usize
+fn values_len<M: MadeNumbers>(made: &M, values: &Values) -> usize
     ensures { result ≡ length (numbers_of (made_values (M.numbers made.now) values.now)) }
 {
     match values {
         Values::Byte(numbers) => numbers.items.len(),
-        Values::Int(numbers) => numbers.items.len(),
-        Values::Long(numbers) => made.count(&numbers.items),
-    }
-}
-
-// Spells the values from one place up to another, in place of what the room held.
-fn spell_values<M: LongNumbers>(
-    room: &mut Room,
-    made: &M,
-    values: &Values,
-    from: usize,
-    to: usize,
-) -> Result<(), AllocError>
-    requires order { from ≤ to }
-    requires within { to ≤ length (numbers_of (made_values (M.numbers made.now) values.now)) }
-    ensures { OnOk result (room.new.bytes.items
-        ≡ value_bytes (kind_of (made_values (M.numbers made.now) values.now))
-        (slice_range (numbers_of (made_values (M.numbers made.now) values.now)) from to)) }
-{
-    match values {
-        Values::Byte(numbers) => spell_bytes(&mut room.bytes, &numbers.items[from..to]),
-        Values::Int(numbers) => spell_ints(&mut room.bytes, &numbers.items[from..to]),
-        Values::Long(numbers) => spell_made(room, made, &numbers.items, from, to),
+        Values::Int(numbers) => made.count_ints(&numbers.items),
+        Values::Long(numbers) => made.count_longs(&numbers.items),
     }
 }
 
 // As many values as a part has.
-fn part_len(values: &Values) -> usize
+fn part_len<M: MadeNumbers>(made: &M, values: &Values) -> usize
     ensures { 0 < result }
 {
     match values {
         Values::Byte(_) => PART,
-        Values::Int(_) => PART / 4,
-        Values::Long(_) => PART / 8,
+        Values::Int(_) | Values::Long(_) => made.at_once(),
     }
 }
 
 // Writes one part: the values from one place up to another.
-fn write_part<W: Write, M: LongNumbers>(
+fn write_part<W: Write, M: MadeNumbers>(
     out: &mut W,
     room: &mut Room,
     made: &M,
@@ -145,13 +182,15 @@ fn write_part<W: Write, M: LongNumbers>(
         (value_bytes (kind_of (made_values (M.numbers made.now) values.now))
         (slice_range (numbers_of (made_values (M.numbers made.now) values.now)) from to))) }
 {
-    spell_values(room, made, values, from, to)?;
-    out.write_all(&room.bytes)?;
-    Ok(())
+    match values {
+        Values::Byte(numbers) => write_bytes(out, &mut room.bytes, &numbers.items[from..to]),
+        Values::Int(numbers) => write_made_ints(out, room, made, &numbers.items, from, to),
+        Values::Long(numbers) => write_made_longs(out, room, made, &numbers.items, from, to),
+    }
 }
 
 // Writes the values from one place up to another.
-fn write_values<W: Write, M: LongNumbers>(
+fn write_values<W: Write, M: MadeNumbers>(
     out: &mut W,
     room: &mut Room,
     made: &M,
@@ -165,7 +204,7 @@ fn write_values<W: Write, M: LongNumbers>(
         (value_bytes (kind_of (made_values (M.numbers made.now) values.now))
         (slice_range (numbers_of (made_values (M.numbers made.now) values.now)) from to))) }
 {
-    let most = part_len(values);
+    let most = part_len(made, values);
     let mut at = from;
     while at < to {
         let next = at + most.min(to - at);
@@ -188,8 +227,8 @@ fn write_padding<W: Write>(out: &mut W, bytes: &mut Vec<u8>, len: usize) -> io::
 
 // How many bytes so many values have past a multiple of 4.
 fn odd_bytes(values: &Values, count: usize) -> usize
-    ensures { (f : List ℤ → List ℤ) → pad_len result
-        ≡ pad_len (size_of (kind_of (made_values f values.now)) * count) }
+    ensures { (made : Made) → pad_len result
+        ≡ pad_len (size_of (kind_of (made_values made values.now)) * count) }
 {
     match values {
         Values::Byte(_) => count % 4,
@@ -199,7 +238,7 @@ fn odd_bytes(values: &Values, count: usize) -> usize
 }
 
 // Writes the values from one place up to another, with padding where that is wanted.
-fn write_piece<W: Write, M: LongNumbers>(
+fn write_piece<W: Write, M: MadeNumbers>(
     out: &mut W,
     room: &mut Room,
     made: &M,
@@ -223,7 +262,7 @@ fn write_piece<W: Write, M: LongNumbers>(
 }
 
 // Writes what a variable has before the records.
-fn write_fixed<W: Write, M: LongNumbers>(
+fn write_fixed<W: Write, M: MadeNumbers>(
     out: &mut W,
     room: &mut Room,
     made: &M,
@@ -244,7 +283,7 @@ fn write_fixed<W: Write, M: LongNumbers>(
 
 // Writes what a variable has in record `r`: one of as many equal parts of its values as there are
 // records.
-fn write_record_part<W: Write, M: LongNumbers>(
+fn write_record_part<W: Write, M: MadeNumbers>(
     out: &mut W,
     room: &mut Room,
     made: &M,
@@ -271,7 +310,7 @@ fn write_record_part<W: Write, M: LongNumbers>(
 }
 
 // Writes record `r` of each record variable.
-fn write_record<W: Write, M: LongNumbers>(
+fn write_record<W: Write, M: MadeNumbers>(
     out: &mut W,
     room: &mut Room,
     made: &M,
@@ -293,7 +332,7 @@ fn write_record<W: Write, M: LongNumbers>(
     Ok(())
 }
 
-fn write_fixed_data<W: Write, M: LongNumbers>(
+fn write_fixed_data<W: Write, M: MadeNumbers>(
     out: &mut W,
     room: &mut Room,
     made: &M,
@@ -309,7 +348,7 @@ fn write_fixed_data<W: Write, M: LongNumbers>(
     Ok(())
 }
 
-fn write_records<W: Write, M: LongNumbers>(
+fn write_records<W: Write, M: MadeNumbers>(
     out: &mut W,
     room: &mut Room,
     made: &M,
@@ -329,9 +368,9 @@ fn write_records<W: Write, M: LongNumbers>(
 }
 
 /// Writes first the variables without the record dimension, then the records, with the numbers that
-/// the lists of 64-bit numbers stand for. `room` is used for the parts, and what it holds then is
+/// the lists stand for. `room` is used for the parts, and what it holds then is
 /// open.
-pub fn write_data<W: Write, M: LongNumbers>(
+pub fn write_data<W: Write, M: MadeNumbers>(
     out: &mut W,
     room: &mut Room,
     made: &M,

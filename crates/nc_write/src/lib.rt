@@ -6,17 +6,20 @@ pub mod extents;
 pub mod kinds;
 mod lengths;
 mod lists;
-mod longs;
+mod made_numbers;
 mod sizes;
 mod spell;
 pub mod tags;
 mod writing;
 
 pub use lists::{Bytes8, DimIds, DocAtts, DocDims, DocVars, Name};
-pub use longs::{Listed, LongNumbers};
+pub use made_numbers::{Listed, MadeNumbers};
 use std::alloc::AllocError;
 use vec_exact::{Ints, Longs};
 pub use writing::{encode, length_of, length_of_made, write_document, write_made};
+
+/// The bytes of a part of a file, which are spelled at once.
+const PART: usize = 65_536;
 
 /// The types of netCDF values. The first six stand in versions 1, 2 and 5, the others in version 5
 /// alone (netCDF classic format specification; CDF-5).

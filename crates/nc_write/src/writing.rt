@@ -4,26 +4,26 @@ ghost use Rattle.std.specs.Io.KnownBytes.{Appends};
 ghost use Rattle.std.specs.List.{sum_by};
 ghost use Rattle.nc_write.specs.File.{file_of, header, header_len, version_of, fixed_total, first_len};
 ghost use Rattle.nc_write.specs.Form.{IsWellFormed, HasShortLists, SaysLength};
-ghost use Rattle.nc_write.specs.Made.{made_doc};
+ghost use Rattle.nc_write.specs.Made.{Made, made_doc};
 
-use crate::data::{PART, write_data};
+use crate::data::write_data;
 use crate::extents::plus;
 use crate::lengths::header_len;
-use crate::longs::{Listed, LongNumbers, Room};
+use crate::made_numbers::{Listed, MadeNumbers, Room};
 use crate::sizes::{data_len, version_of};
 use crate::spell::{put_attributes, put_dimensions, put_number, put_variables};
-use crate::{EncFault, NcDoc};
+use crate::{EncFault, NcDoc, PART};
 use std::alloc::{AllocError, Global};
 use std::io::{self, Write};
 
 const MAX_FILE: u64 = 2_147_483_647;
 
-/// The length of the one file of a document, in bytes, from the lengths of its lists. Of what numbers
-/// of 64 bits its lists stand for only their count tells.
+/// The length of the one file of a document, in bytes, from the lengths of its dimensions. Of the
+/// numbers that its lists stand for only their count tells.
 pub fn length_of_made(doc: &NcDoc) -> u64
     requires { HasShortLists doc.now }
-    ensures { (f : List ℤ → List ℤ) → IsWellFormed (made_doc f doc.now)
-        → result ≡ length (file_of (made_doc f doc.now)) }
+    ensures { (made : Made) → IsWellFormed (made_doc made doc.now)
+        → result ≡ length (file_of (made_doc made doc.now)) }
 {
     plus(header_len(version_of(doc), doc), data_len(doc))
 }
@@ -64,11 +64,12 @@ fn write_header<W: Write>(out: &mut W, bytes: &mut Vec<u8>, doc: &NcDoc) -> io::
     Ok(())
 }
 
-/// Writes the one file of the document that a document stands for: its lists of 64-bit numbers stand
-/// for those that `made` makes. In version 5 where a variable is Long, else in version 2. The values
-/// are spelled part by part, so that beside the document one part stands in memory. After an error
-/// some prefix of the file may have been written.
-pub fn write_made<W: Write, M: LongNumbers>(
+/// Writes the one file of the document that a document stands for: its lists stand for those that
+/// `made` makes. In version 5 where a variable is Long, else in version 2. The values are made and
+/// spelled part by part, so that beside the document one part stands in memory: as many numbers as
+/// `made` makes at once, and 65,536 bytes. After an error some prefix of the file may have been
+/// written.
+pub fn write_made<W: Write, M: MadeNumbers>(
     alloc: Global,
     doc: &NcDoc,
     made: &M,
@@ -80,6 +81,7 @@ pub fn write_made<W: Write, M: LongNumbers>(
 {
     let mut room = Room {
         bytes: Vec::with_capacity(alloc, PART)?,
+        ints: Vec::new(alloc),
         longs: Vec::new(alloc),
     };
     write_header(out, &mut room.bytes, doc)?;

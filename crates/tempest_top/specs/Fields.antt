@@ -10,6 +10,7 @@ use Rattle.apply_map.specs.Values.{HasNoneBefore, IsFirstAt}
 use Rattle.field_mask.specs.declared.fields.MaskedField.{MaskedField}
 use Rattle.field_mask.specs.Masked.{masked_application_of, masked_field_of, present_mass_of, part_mass_of, masked_count_of}
 use Rattle.nc_write.specs.declared.NcDoc.{NcDoc}
+use Rattle.nc_write.specs.Made.{Made, of_lists}
 use Rattle.field_files.specs.declared.FieldVar.{FieldVar}
 use Rattle.field_files.specs.FieldShapes.{Fits}
 use Rattle.field_files.specs.FieldDocument.{field_document, masked_field_document}
@@ -50,8 +51,9 @@ masked_field_text slices source target masked = masses_text slices source target
 abbrev pub plain_of : MapParts → DataVar → FieldVar → Field
 plain_of m found field = field_of (application_of m field.slices found.values)
 
-abbrev pub plain_rests : MapParts → DataVar → FieldVar → List ℤ
-plain_rests m found field = (plain_of m found field).rest
+-- what its document stands for while it is written
+abbrev pub plain_numbers : MapParts → DataVar → FieldVar → Made
+plain_numbers m found field = let made = plain_of m found field in of_lists made.whole made.rest
 
 abbrev pub plain_document : MapParts → DataVar → FieldVar → NcDoc
 plain_document m found field = let made = plain_of m found field in field_document found.file field m.n_b made.whole made.rest

@@ -1,11 +1,11 @@
 // A document as the content of a file.
-use nc_write::{LongNumbers, NcDoc, write_made};
+use nc_write::{MadeNumbers, NcDoc, write_made};
 use remap_io::Content;
 use std::alloc::Global;
 use std::io::{self, Write};
 
-/// The file of what a document stands for, whose bytes never stand in memory whole: its lists of
-/// 64-bit numbers stand for those that `made` makes.
+/// The file of what a document stands for, whose bytes never stand in memory whole: its lists stand
+/// for those that `made` makes.
 #[derive(Drop)]
 pub struct DocumentFile<'a, M> {
     pub alloc: Global,
@@ -13,7 +13,7 @@ pub struct DocumentFile<'a, M> {
     pub made: &'a M,
 }
 
-impl<M: LongNumbers> Content for DocumentFile<'_, M> {
+impl<M: MadeNumbers> Content for DocumentFile<'_, M> {
     ghost use Rattle.nc_write.specs.File.{file_of};
     ghost use Rattle.nc_write.specs.Form.{IsWellFormed};
     ghost use Rattle.nc_write.specs.Made.{made_doc};

@@ -19,7 +19,7 @@ ghost use Rattle.tempest_top.specs.Promises.{IsFieldText, Keeps};
 use crate::field_docs::{first_fill, masked_field, plain_field};
 use crate::field_faults::{refuse_data_file, refuse_fill, refuse_map_file, refuse_no_fit};
 use crate::finish::write_made_then_text;
-use crate::rests::FieldRests;
+use crate::numbers::FieldNumbers;
 use apply_map::{Targets, targets_of};
 use command_line::Text;
 use data_load::{DataRefusal, DataVar, load_data};
@@ -27,7 +27,7 @@ use fault_lines::{Status, refuse_length, refuse_memory};
 use field_files::{FieldVar, fit_field};
 use map_load::{MapRefusal, load_map};
 use map_rows::Map;
-use nc_write::{Listed, LongNumbers, NcDoc, length_of_made};
+use nc_write::{Listed, MadeNumbers, NcDoc, length_of_made};
 use remap_io::{Files, Sink};
 use std::alloc::Global;
 use vec_exact::MAX_FILE_LEN;
@@ -83,7 +83,7 @@ fn refuse_data_of<E: Sink>(err: &mut E, file: &Text, var: &Text, why: DataRefusa
 
 // Writes what the document of a field stands for to `file`, unless that would be too long, and puts
 // its text.
-fn write_document<F: Files, O: Sink, E: Sink, M: LongNumbers>(
+fn write_document<F: Files, O: Sink, E: Sink, M: MadeNumbers>(
     alloc: Global,
     doc: &NcDoc,
     made: &M,
@@ -118,7 +118,7 @@ fn write_document<F: Files, O: Sink, E: Sink, M: LongNumbers>(
 }
 
 // Writes the field that a map, made ready, makes of a variable none of whose values is the fill
-// value. The rests are made while the file is written.
+// value. Its numbers are made while the file is written.
 fn write_by_targets<F: Files, O: Sink, E: Sink>(
     alloc: Global,
     targets: &Targets,
@@ -137,15 +137,15 @@ fn write_by_targets<F: Files, O: Sink, E: Sink>(
         (scene (F.seen files.new) (O.seen out.new) (E.seen err.new)) result }
     ensures no_line { result ≡ Status.Done → err.new ≡ err.old }
 {
-    let Ok((doc, text)) = plain_field(alloc, targets, found, field) else {
+    let Ok((doc, text)) = plain_field(alloc, targets.map(), found, field) else {
         return refuse_memory(err);
     };
-    let rests = FieldRests {
+    let numbers = FieldNumbers {
         targets,
         slices: field.slices,
         values: &found.values.items,
     };
-    write_document(alloc, &doc, &rests, text.as_str(), file, files, out, err)
+    write_document(alloc, &doc, &numbers, text.as_str(), file, files, out, err)
 }
 
 // Writes the field that a map makes of a variable none of whose values is the fill value.

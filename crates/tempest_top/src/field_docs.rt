@@ -4,9 +4,9 @@ ghost use Rattle.field_mask.specs.Laws.{IsMaskedFieldOf};
 ghost use Rattle.field_mask.specs.Masked.{present_mass_of, part_mass_of, masked_count_of};
 ghost use Rattle.nc_write.specs.Form.{IsWellFormed, HasShortLists};
 ghost use Rattle.nc_write.specs.Made.{made_doc};
-ghost use Rattle.tempest_top.specs.Fields.{LiesOver, IsFilledAt, HasNoFill, source_text, masses_text, field_text, masked_field_text, plain_rests, plain_document, plain_text, masked_of, masked_document, masked_text};
+ghost use Rattle.tempest_top.specs.Fields.{LiesOver, IsFilledAt, HasNoFill, source_text, masses_text, field_text, masked_field_text, plain_numbers, plain_document, plain_text, masked_of, masked_document, masked_text};
 
-use apply_map::{Targets, fill_at, source_mass, whole_parts};
+use apply_map::{fill_at, source_mass};
 use data_load::DataVar;
 use field_files::{FieldVar, field_frame_doc, masked_field_doc};
 use field_mask::{MaskFault, MaskedField, apply_masked, masked_count, part_mass, present_mass};
@@ -49,29 +49,26 @@ fn field_text(alloc: Global, slices: u32, mass: i128) -> Result<String, NoMemory
     Ok(text)
 }
 
-/// The document and the text of the field that a map makes of a variable. The document has no rests:
-/// it stands for that with the rests of the field, which are made while it is written.
+/// The document and the text of the field that a map makes of a variable. The document has no
+/// numbers: it stands for that with those of the field, which are made while it is written.
 pub fn plain_field(
     alloc: Global,
-    targets: &Targets,
+    map: &Map,
     found: &DataVar,
     field: FieldVar,
 ) -> Result<(NcDoc, String), NoMemory>
-    requires { LiesOver targets.now found.now field }
+    requires { LiesOver map.now found.now field }
     ensures document { IfOk result (λ p.
-        made_doc (λ _. plain_rests targets.now found.now field) p.0
-        ≡ plain_document targets.now found.now field) }
+        made_doc (plain_numbers map.now found.now field) p.0
+        ≡ plain_document map.now found.now field) }
     ensures well_formed { IfOk result (λ p.
-        IsWellFormed (made_doc (λ _. plain_rests targets.now found.now field) p.0)) }
+        IsWellFormed (made_doc (plain_numbers map.now found.now field) p.0)) }
     ensures short { IfOk result (λ p. HasShortLists p.0) }
-    ensures text { IfOk result (λ p.
-        string_bytes p.1 ≡ plain_text targets.now found.now field) }
+    ensures text { IfOk result (λ p. string_bytes p.1 ≡ plain_text map.now found.now field) }
 {
-    let map = targets.map();
-    let values: &[i32] = &found.values.items;
-    let whole = whole_parts(alloc, targets, field.slices, values)?;
-    let text = field_text(alloc, field.slices, source_mass(map, field.slices, values))?;
-    let doc = field_frame_doc(alloc, &found.file, field, map.n_b, whole)?;
+    let mass = source_mass(map, field.slices, &found.values.items);
+    let text = field_text(alloc, field.slices, mass)?;
+    let doc = field_frame_doc(alloc, &found.file, field, map.n_b)?;
     Ok((doc, text))
 }
 

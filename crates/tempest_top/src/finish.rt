@@ -11,7 +11,7 @@ ghost use Rattle.tempest_top.specs.Ends.{Ends};
 
 use crate::document::DocumentFile;
 use fault_lines::{Status, put_line};
-use nc_write::{Listed, LongNumbers, NcDoc};
+use nc_write::{Listed, MadeNumbers, NcDoc};
 use remap_io::{Files, PutErr, Sink};
 use std::alloc::Global;
 
@@ -35,9 +35,9 @@ pub fn put_text_alone<O: Sink, E: Sink>(out: &mut O, err: &mut E, text: &[u8]) -
     }
 }
 
-/// Writes the file of what a document stands for, and then puts the text. Its lists of 64-bit
-/// numbers stand for those that `made` makes. The document is spelled while it is written.
-pub fn write_made_then_text<F: Files, O: Sink, E: Sink, M: LongNumbers>(
+/// Writes the file of what a document stands for, and then puts the text. Its lists stand for those
+/// that `made` makes. The document is spelled while it is written.
+pub fn write_made_then_text<F: Files, O: Sink, E: Sink, M: MadeNumbers>(
     alloc: Global,
     files: &mut F,
     out: &mut O,

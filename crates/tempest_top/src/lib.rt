@@ -12,9 +12,9 @@ mod inputs;
 mod laws;
 mod map;
 mod map_faults;
+mod numbers;
 mod pairs;
 mod report;
-mod rests;
 mod self_run;
 mod top;
 

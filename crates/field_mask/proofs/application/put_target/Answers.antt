@@ -6,10 +6,10 @@ use Rattle.std.proofs.lemmas.List.Elements.{All-get_or}
 use Rattle.map_rows.specs.Maps.{IsSoundMap}
 use Rattle.map_rows.proofs.Masses.{place_within}
 use Rattle.map_rows.proofs.Places.{no_slices, one_put, more_slices}
-use Rattle.apply_map.proofs.Slices.{size_of_areas, rows_at, slice_within}
+use Rattle.apply_map.proofs.Slices.{size_of_areas, rows_at}
 use Rattle.field_mask.specs.Masked.{masked_whole, masked_rest, masked_part}
 use Rattle.field_mask.specs.Present.{masked_number}
-use Rattle.field_mask.proofs.MaskedSlices.{share_is}
+use Rattle.field_mask.proofs.MaskedSlices.{share_is, slice_within}
 use Rattle.field_mask.proofs.application.put_target.Goals as goal
 
 pub bounds-areas-j : goal.bounds-areas-j

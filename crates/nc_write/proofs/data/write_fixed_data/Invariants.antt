@@ -6,4 +6,4 @@ use Rattle.nc_write.specs.Made.{made_var, made_doc}
 use Rattle.nc_write.proofs.data.write_fixed_data.Given as goal
 
 abbrev pub invariant-loop-var : goal.invariant-loop-var
-invariant-loop-var g l = Appends (g.W.Write.contents l.fn.out) (g.W.Write.contents l.out) (flat_map (λ v. fixed_data (made_doc (g.M.LongNumbers.numbers l.made) l.doc) (made_var (g.M.LongNumbers.numbers l.made) v)) (take l.var-index l.doc.vars))
+invariant-loop-var g l = Appends (g.W.Write.contents l.fn.out) (g.W.Write.contents l.out) (flat_map (λ v. fixed_data (made_doc (g.M.MadeNumbers.numbers l.made) l.doc) (made_var (g.M.MadeNumbers.numbers l.made) v)) (take l.var-index l.doc.vars))

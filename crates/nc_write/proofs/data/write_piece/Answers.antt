@@ -9,7 +9,7 @@ use Rattle.nc_write.proofs.data.write_piece.Goals as goal
 
 pub returns : goal.returns
 returns g c =
-    let f = g.M.LongNumbers.numbers c.args.made.now in
+    let f = g.M.MadeNumbers.numbers c.args.made.now in
     let values = made_values f c.args.values.now in
     let kind = kind_of values in
     let zs = slice_range (numbers_of values) c.args.from c.args.to in

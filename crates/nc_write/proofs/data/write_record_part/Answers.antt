@@ -9,7 +9,7 @@ use Rattle.nc_write.proofs.data.write_record_part.Goals as goal
 pub returns-then-not-is_record_var : goal.returns-then-not-is_record_var
 unfolding record_data
 returns-then-not-is_record_var g c =
-    let f = g.M.LongNumbers.numbers c.args.made.now in
+    let f = g.M.MadeNumbers.numbers c.args.made.now in
     let doc = made_doc f c.args.doc.now in
     let v = made_var f c.args.var.now in
     let not : is_record doc v ≡ false = search rules in
@@ -18,7 +18,7 @@ returns-then-not-is_record_var g c =
 pub returns : goal.returns
 unfolding record_data
 returns g c =
-    let f = g.M.LongNumbers.numbers c.args.made.now in
+    let f = g.M.MadeNumbers.numbers c.args.made.now in
     let doc = made_doc f c.args.doc.now in
     let v = made_var f c.args.var.now in
     let r = c.args.r in

@@ -6,7 +6,7 @@ use Rattle.nc_write.proofs.data.write_values.Goals as goal
 
 pub loop-at-preserved : goal.loop-at-preserved
 loop-at-preserved g c =
-    let values = made_values (g.M.LongNumbers.numbers c.args.made.now) c.args.values.now in
+    let values = made_values (g.M.MadeNumbers.numbers c.args.made.now) c.args.values.now in
     let before = c.loop-at.invariant in
     record {
       from = omega (arith, before.from);

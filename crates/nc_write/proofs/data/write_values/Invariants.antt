@@ -8,7 +8,7 @@ abbrev pub invariant-loop-at : goal.invariant-loop-at
 invariant-loop-at g l = record {
   from : l.from ≤ l.at;
   to : l.at ≤ l.to;
-  written : Appends (g.W.Write.contents l.initial.out) (g.W.Write.contents l.out) (value_bytes (kind_of (made_values (g.M.LongNumbers.numbers l.made) l.values)) (slice_range (numbers_of (made_values (g.M.LongNumbers.numbers l.made) l.values)) l.from l.at));
+  written : Appends (g.W.Write.contents l.initial.out) (g.W.Write.contents l.out) (value_bytes (kind_of (made_values (g.M.MadeNumbers.numbers l.made) l.values)) (slice_range (numbers_of (made_values (g.M.MadeNumbers.numbers l.made) l.values)) l.from l.at));
 }
 
 abbrev pub decreases-loop-at : goal.decreases-loop-at

@@ -7,11 +7,11 @@ use Rattle.nc_write.proofs.Places.{has_its_values, length_file_of, first_within}
 use Rattle.nc_write.proofs.writing.write_made.Goals as goal
 
 pub write_header-requires-clause-short : goal.write_header-requires-clause-short
-write_header-requires-clause-short g c = made_short (g.M.LongNumbers.numbers c.args.made.now) c.args.doc.now c.requires.short_lists
+write_header-requires-clause-short g c = made_short (g.M.MadeNumbers.numbers c.args.made.now) c.args.doc.now c.requires.short_lists
 
 pub write_header-requires-clause-room : goal.write_header-requires-clause-room
 write_header-requires-clause-room g c =
-    let f = g.M.LongNumbers.numbers c.args.made.now in
+    let f = g.M.MadeNumbers.numbers c.args.made.now in
     let doc = c.args.doc.now in
     let m = made_doc f doc in
     omega (
@@ -26,12 +26,12 @@ write_header-requires-clause-room g c =
 
 pub write_data-requires : goal.write_data-requires
 write_data-requires g c =
-    has_its_values (made_doc (g.M.LongNumbers.numbers c.args.made.now) c.args.doc.now) c.requires
+    has_its_values (made_doc (g.M.MadeNumbers.numbers c.args.made.now) c.args.doc.now) c.requires
 
 pub returns : goal.returns
 unfolding file_of
 returns g c =
-    let f = g.M.LongNumbers.numbers c.args.made.now in
+    let f = g.M.MadeNumbers.numbers c.args.made.now in
     let doc = c.args.doc.now in
     let m = made_doc f doc in
     let front : header doc (header_len doc) ≡ header m (header_len m) = sym (made_header f doc (header_len doc)) ∙ ap (header m) (sym (made_header_len f doc)) in
