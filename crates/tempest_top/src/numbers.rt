@@ -6,7 +6,7 @@ use nc_write::MadeNumbers;
 
 // So many slices are made at once. For each part of a file the rows of the map are read once, and a
 // part of more slices takes more memory.
-const SLICES: usize = 4;
+const SLICES: usize = 8;
 
 /// The whole parts and the rests of the field that a map makes of values. They never stand in memory
 /// whole: each part is made when it is written.
